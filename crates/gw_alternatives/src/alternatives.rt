@@ -1,7 +1,8 @@
 //! The jobs of alternatives: each is there, or the first that is refused, before any run.
 
-ghost use Rattle.std.specs.Prelude.{◌<◌, ◌≤◌};
-ghost use Rattle.gw_points.specs.Points.{count_of};
+ghost use Rattle.std.specs.Prelude.{◌≡◌, ◌<◌, ◌≤◌, ◌++◌, ◌∷◌, [], map, IfOk, OnOk};
+ghost use Rattle.gw_points.specs.Points.{count_of, name_of as point_name};
+ghost use Rattle.gw_alternatives.specs.Alternatives.{IsAlternative, IsPointAt, ArePoints, ArePointsOf, AreModels};
 
 use crate::alternative::Alternative;
 use gw_answers::{NoJob, Refusal, refused};
@@ -57,7 +58,9 @@ pub(crate) fn alternative_of(
     name: Vec<u8>,
     text: &[u8],
     count: u64,
-) -> Result<Alternative, NoAlternative> {
+) -> Result<Alternative, NoAlternative>
+    ensures { IfOk result (IsAlternative name.items text.now count) }
+{
     match job_of_text(alloc, text, count) {
         Ok(spec) => Ok(Alternative { name, spec }),
         Err(none) => {
@@ -71,6 +74,7 @@ pub(crate) fn alternative_of(
 /// What a point is called.
 fn name_of(alloc: Global, points: &Points, point: usize) -> Result<Vec<u8>, Memory>
     requires { point < count_of points.now }
+    ensures { IfOk result (λ name. name.items ≡ point_name points.now point) }
 {
     let mut name = Vec::new(alloc);
     points.put_name(&mut name, point)?;
@@ -86,6 +90,7 @@ fn point_of(
     count: u64,
 ) -> Result<Alternative, NoAlternative>
     requires { point < count_of points.now }
+    ensures { IfOk result (IsPointAt text.now points.now count point) }
 {
     match points.text_at(alloc, text, point) {
         Ok(made) => match name_of(alloc, points, point) {
@@ -97,7 +102,9 @@ fn point_of(
 }
 
 /// Alternatives, with one more.
-fn add(alternatives: &mut Vec<Alternative>, alternative: Alternative) -> Result<(), NoAlternative> {
+fn add(alternatives: &mut Vec<Alternative>, alternative: Alternative) -> Result<(), NoAlternative>
+    ensures { OnOk result (alternatives.new.items ≡ alternatives.old.items ++ alternative ∷ []) }
+{
     match alternatives.push(alternative) {
         Ok(()) => Ok(()),
         Err(_) => Err(NoAlternative::Memory),
@@ -112,6 +119,7 @@ fn points_in(
     count: u64,
 ) -> Result<Vec<Alternative>, NoAlternative>
     requires { count_of points.now ≤ 64 }
+    ensures { IfOk result (λ all. ArePointsOf text.now points.now count all.items) }
 {
     let mut alternatives = Vec::new(alloc);
     for point in 0..points.count() {
@@ -127,7 +135,9 @@ pub(crate) fn points_by_words(
     text: &[u8],
     words: &[&[u8]],
     count: u64,
-) -> Result<Vec<Alternative>, NoAlternative> {
+) -> Result<Vec<Alternative>, NoAlternative>
+    ensures { IfOk result (λ all. ArePoints text.now (map (λ w. w.now) words.now) count all.items) }
+{
     match points_of(alloc, words) {
         Ok(points) => points_in(alloc, text, &points, count),
         Err(none) => Err(of_point(none)),
@@ -135,7 +145,9 @@ pub(crate) fn points_by_words(
 }
 
 /// A copy of a name.
-fn copy_of(alloc: Global, name: &[u8]) -> Result<Vec<u8>, NoAlternative> {
+fn copy_of(alloc: Global, name: &[u8]) -> Result<Vec<u8>, NoAlternative>
+    ensures { IfOk result (λ copy. copy.items ≡ name.now) }
+{
     let mut copy = Vec::new(alloc);
     match copy.extend_from_slice(name) {
         Ok(()) => Ok(copy),
@@ -149,7 +161,9 @@ pub(crate) fn models_of(
     first: &[u8],
     second: &[u8],
     count: u64,
-) -> Result<Vec<Alternative>, NoAlternative> {
+) -> Result<Vec<Alternative>, NoAlternative>
+    ensures { IfOk result (λ all. AreModels first.now second.now count all.items) }
+{
     let mut alternatives = Vec::new(alloc);
     let name = copy_of(alloc, b"A")?;
     let alternative = alternative_of(alloc, name, first, count)?;

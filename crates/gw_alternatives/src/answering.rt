@@ -1,7 +1,8 @@
 //! From texts to what is told of their alternatives.
 
-ghost use Rattle.std.specs.Prelude.{IfOk};
-ghost use Rattle.gw_alternatives.specs.Ends.{IsEnd};
+ghost use Rattle.std.specs.Prelude.{◌≡◌, map, IfOk, MatchResult};
+ghost use Rattle.gw_answers.specs.Status.{refused as refused_status};
+ghost use Rattle.gw_alternatives.specs.Told.{IsAnswerAbout, IsComparison, IsStudyOfPoints};
 ghost use Rattle.gw_study.specs.Requests.{MayBeStudied};
 
 use crate::alternative::Alternative;
@@ -29,6 +30,16 @@ fn refusal_of_form(
     }
 }
 
+/// The answer that something is refused, with this text.
+fn refusal(text: Vec<u8>) -> Answer
+    ensures { (result.text ≡ text) × (result.status ≡ refused_status) }
+{
+    Answer {
+        text,
+        status: REFUSED,
+    }
+}
+
 /// What is told of alternatives, if they can be told in this form.
 fn answer_in<W: Threads + Wait + Sync + Eprint>(
     rt: &W,
@@ -38,13 +49,11 @@ fn answer_in<W: Threads + Wait + Sync + Eprint>(
     request: &StudyRequest,
 ) -> Result<Answer, Memory>
     requires { MayBeStudied request.now }
-    ensures { IfOk result (λ a. IsEnd a.status) }
+    ensures { IfOk result (λ a.
+        IsAnswerAbout form.entry request.now alternatives.now a.text.items a.status) }
 {
     match refusal_of_form(alloc, alternatives, form)? {
-        Some(text) => Ok(Answer {
-            text,
-            status: REFUSED,
-        }),
+        Some(text) => Ok(refusal(text)),
         None => Ok(Answer {
             text: told(rt, alloc, alternatives, form, request)?,
             status: ENDED,
@@ -61,14 +70,13 @@ fn answer<W: Threads + Wait + Sync + Eprint>(
     request: &StudyRequest,
 ) -> Result<Answer, Memory>
     requires { MayBeStudied request.now }
-    ensures { IfOk result (λ a. IsEnd a.status) }
+    ensures { MatchResult alternatives
+        (λ all. IfOk result (λ a. IsAnswerAbout form.entry request.now all.items a.text.items a.status))
+        (λ none. IfOk result (λ a. a.status ≡ refused_status)) }
 {
     match alternatives {
         Ok(alternatives) => answer_in(rt, alloc, &alternatives, form, request),
-        Err(NoAlternative::Refused(text)) => Ok(Answer {
-            text,
-            status: REFUSED,
-        }),
+        Err(NoAlternative::Refused(text)) => Ok(refusal(text)),
         Err(NoAlternative::Memory) => Err(Memory),
     }
 }
@@ -85,7 +93,8 @@ pub fn study_points<W: Threads + Wait + Sync + Eprint>(
     request: &StudyRequest,
 ) -> Result<Answer, Memory>
     requires { MayBeStudied request.now }
-    ensures { IfOk result (λ a. IsEnd a.status) }
+    ensures { IfOk result (λ a. IsStudyOfPoints text.now (map (λ w. w.now) words.now) form.entry
+        request.now a.text.items a.status) }
 {
     answer(
         rt,
@@ -106,7 +115,8 @@ pub fn compare<W: Threads + Wait + Sync + Eprint>(
     request: &StudyRequest,
 ) -> Result<Answer, Memory>
     requires { MayBeStudied request.now }
-    ensures { IfOk result (λ a. IsEnd a.status) }
+    ensures { IfOk result (λ a.
+        IsComparison first.now second.now form.entry request.now a.text.items a.status) }
 {
     answer(
         rt,

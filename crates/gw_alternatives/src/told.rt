@@ -1,7 +1,11 @@
 //! What is told of the runs of alternatives.
 
-ghost use Rattle.std.specs.Prelude.{◌≤◌, length, IfOk, vec_len};
+ghost use Rattle.std.specs.Prelude.{◌≡◌, ◌≤◌, ◌++◌, codes, length, map, IfOk, OnOk, vec_len};
+ghost use Rattle.gw_figures.specs.Labels.{label_of, labels};
+ghost use Rattle.gw_comparison.specs.Sheets.{AddsEach};
 ghost use Rattle.gw_study.specs.Requests.{MayBeStudied};
+ghost use Rattle.gw_alternatives.specs.Told as model;
+ghost use Rattle.gw_alternatives.specs.Told.{AddsAllDifferences, AddsBlock, AddsRest, AddsTable, AreTold, IsPointBy, TellsAlternative, TellsAlternatives, series_of};
 
 use crate::alternative::Alternative;
 use crate::form::Form;
@@ -16,7 +20,9 @@ use std::sync::Wait;
 use std::thread::Threads;
 
 /// The value of a figure in a run that came to its count, if it has one there.
-fn value_in(run: &Run, figure: usize) -> Option<i128> {
+fn value_in(run: &Run, figure: usize) -> Option<i128>
+    ensures { result ≡ model.value_in figure run.now }
+{
     if run.end != End::Done {
         return None;
     }
@@ -26,25 +32,24 @@ fn value_in(run: &Run, figure: usize) -> Option<i128> {
     }
 }
 
-/// The values of a figure, run by run; at most 512.
+/// The values of a figure, run by run.
 fn values_of(alloc: Global, runs: &[Run], figure: usize) -> Result<Vec<Option<i128>>, Memory>
-    ensures { IfOk result (λ values. length values.items ≤ 512) }
+    ensures { IfOk result (λ values. values.items ≡ map (model.value_in figure) runs.now) }
 {
     let mut values = Vec::new(alloc);
-    for r in 0..runs.len().min(512) {
-        values.push(value_in(&runs[r], figure))?;
+    for run in runs {
+        values.push(value_in(run, figure))?;
     }
     Ok(values)
 }
 
 /// A figure with its values.
-fn column_of(
-    alloc: Global,
-    figure: &Figure,
-    number: usize,
-    runs: &[Run],
-) -> Result<Column, Memory> {
-    let values = values_of(alloc, runs, number)?;
+fn column_of(alloc: Global, figure: &Figure, place: usize, runs: &[Run]) -> Result<Column, Memory>
+    requires { length runs.now ≤ 512 }
+    ensures { IfOk result (λ column.
+        series_of column ≡ model.series_at runs.now place (label_of figure.now)) }
+{
+    let values = values_of(alloc, runs, place)?;
     let mut name = Vec::new(alloc);
     name.extend_from_slice(&figure.name)?;
     Ok(Column {
@@ -55,11 +60,21 @@ fn column_of(
 }
 
 /// The figures that are told, with their values.
-fn columns_of(alloc: Global, results: &Results, all: bool) -> Result<Vec<Column>, Memory> {
+#[tactic(auto, unfolding(crate::specs::Told::series_from))]
+fn columns_of(
+    alloc: Global,
+    figures: &[Figure],
+    runs: &[Run],
+    all: bool,
+) -> Result<Vec<Column>, Memory>
+    requires { length runs.now ≤ 512 }
+    ensures { IfOk result (λ columns. map series_of columns.items
+        ≡ model.series_from all runs.now 0 (labels figures.now)) }
+{
     let mut columns = Vec::new(alloc);
-    for i in 0..results.figures.len() {
-        if all || results.figures[i].main {
-            columns.push(column_of(alloc, &results.figures[i], i, &results.runs)?)?;
+    for i in 0..figures.len() {
+        if all || figures[i].main {
+            columns.push(column_of(alloc, &figures[i], i, runs)?)?;
         }
     }
     Ok(columns)
@@ -70,17 +85,36 @@ fn point_of(
     alloc: Global,
     alternative: &Alternative,
     results: &Results,
-    all: bool,
-) -> Result<Point, Memory> {
+    request: &StudyRequest,
+) -> Result<Point, Memory>
+    requires { vec_len results.now.runs ≤ 512 }
+    ensures { IfOk result (IsPointBy request.now alternative.now results.now) }
+{
     let mut name = Vec::new(alloc);
     name.extend_from_slice(&alternative.name)?;
-    Ok(Point {
-        name,
-        columns: columns_of(alloc, results, all)?,
-    })
+    let columns = columns_of(alloc, &results.figures, &results.runs, request.all)?;
+    Ok(Point { name, columns })
 }
 
-/// The head of an alternative, and what is told of its results.
+/// The line above the table of an alternative.
+#[tactic(auto, unfolding(crate::specs::Told::head_line))]
+fn put_head(out: &mut Vec<u8>, name: &[u8]) -> Result<(), Memory>
+    ensures { OnOk result (out.new.items ≡ out.old.items ++ model.head_line name.now) }
+{
+    out.extend_from_slice(b"POINT ")?;
+    out.extend_from_slice(name)?;
+    out.extend_from_slice(b"\n")
+}
+
+/// A text, and the end of a line behind it.
+fn put_ended(out: &mut Vec<u8>, text: &[u8]) -> Result<(), Memory>
+    ensures { OnOk result (out.new.items ≡ out.old.items ++ text.now ++ codes "\n") }
+{
+    out.extend_from_slice(text)?;
+    out.extend_from_slice(b"\n")
+}
+
+/// The head of an alternative, what is told of its results, and an empty line.
 fn put_table(
     alloc: Global,
     out: &mut Vec<u8>,
@@ -89,13 +123,31 @@ fn put_table(
     request: &StudyRequest,
 ) -> Result<(), Memory>
     requires { vec_len results.now.runs ≤ 512 }
+    ensures { OnOk result
+        (AddsTable request.now alternative.now results.now out.old.items out.new.items) }
 {
-    out.extend_from_slice(b"POINT ")?;
-    out.extend_from_slice(&alternative.name)?;
-    out.extend_from_slice(b"\n")?;
+    put_head(out, &alternative.name)?;
     let text = results_text(alloc, &alternative.spec, results, request)?;
-    out.extend_from_slice(&text)?;
-    out.extend_from_slice(b"\n")
+    put_ended(out, &text)
+}
+
+/// The same, where tables are asked for.
+fn put_table_in(
+    alloc: Global,
+    out: &mut Vec<u8>,
+    alternative: &Alternative,
+    results: &Results,
+    form: Form<'_>,
+    request: &StudyRequest,
+) -> Result<(), Memory>
+    requires { vec_len results.now.runs ≤ 512 }
+    ensures { OnOk result (model.AddsTableIn form.entry request.now alternative.now results.now
+        out.old.items out.new.items) }
+{
+    match form {
+        Form::Table => put_table(alloc, out, alternative, results, request),
+        Form::Csv | Form::Picture(_) => Ok(()),
+    }
 }
 
 /// Runs an alternative; its table is put, where tables are asked for. What its runs say comes back.
@@ -108,12 +160,12 @@ fn point_told<W: Threads + Wait + Sync + Eprint>(
     request: &StudyRequest,
 ) -> Result<Point, Memory>
     requires { MayBeStudied request.now }
+    ensures { IfOk result (λ point.
+        TellsAlternative form.entry request.now alternative.now point out.old.items out.new.items) }
 {
     let results = results(rt, alloc, &alternative.spec, request)?;
-    if let Form::Table = form {
-        put_table(alloc, out, alternative, &results, request)?;
-    }
-    point_of(alloc, alternative, &results, request.all)
+    put_table_in(alloc, out, alternative, &results, form, request)?;
+    point_of(alloc, alternative, &results, request)
 }
 
 /// Runs all alternatives, one after the other.
@@ -126,6 +178,8 @@ fn points_told<W: Threads + Wait + Sync + Eprint>(
     request: &StudyRequest,
 ) -> Result<Vec<Point>, Memory>
     requires { MayBeStudied request.now }
+    ensures { IfOk result (λ points. TellsAlternatives form.entry request.now alternatives.now
+        points.items out.old.items out.new.items) }
 {
     let mut points = Vec::new(alloc);
     for i in 0..alternatives.len() {
@@ -134,18 +188,51 @@ fn points_told<W: Threads + Wait + Sync + Eprint>(
     Ok(points)
 }
 
+/// The differences of a point to the first, and an empty line.
+fn put_block(
+    alloc: Global,
+    out: &mut Vec<u8>,
+    first: &Point,
+    second: &Point,
+    all: bool,
+) -> Result<(), Memory>
+    ensures { OnOk result (AddsBlock all first.now second.now out.old.items out.new.items) }
+{
+    put_differences(alloc, out, first, second, all)?;
+    out.push(b'\n')?;
+    Ok(())
+}
+
+/// The differences of points to the first.
+fn put_blocks(
+    alloc: Global,
+    out: &mut Vec<u8>,
+    first: &Point,
+    others: &[Point],
+    all: bool,
+) -> Result<(), Memory>
+    ensures { OnOk result
+        (AddsEach (AddsBlock all first.now) others.now out.old.items out.new.items) }
+{
+    for i in 0..others.len() {
+        put_block(alloc, out, first, &others[i], all)?;
+    }
+    Ok(())
+}
+
 /// The differences of all points to the first.
 fn put_all_differences(
     alloc: Global,
     out: &mut Vec<u8>,
     points: &[Point],
     all: bool,
-) -> Result<(), Memory> {
-    for i in 1..points.len() {
-        put_differences(alloc, out, &points[0], &points[i], all)?;
-        out.extend_from_slice(b"\n")?;
+) -> Result<(), Memory>
+    ensures { OnOk result (AddsAllDifferences all points.now out.old.items out.new.items) }
+{
+    match points {
+        [first, others @ ..] => put_blocks(alloc, out, first, others, all),
+        [] => Ok(()),
     }
-    Ok(())
 }
 
 /// What is told of points behind their tables: differences, records, or a picture.
@@ -155,7 +242,9 @@ fn put_points(
     points: &[Point],
     form: Form<'_>,
     all: bool,
-) -> Result<(), Memory> {
+) -> Result<(), Memory>
+    ensures { OnOk result (AddsRest form.entry all points.now out.old.items out.new.items) }
+{
     match form {
         Form::Table => put_all_differences(alloc, out, points, all),
         Form::Csv => put_sheet(alloc, out, points, all),
@@ -172,6 +261,7 @@ pub(crate) fn told<W: Threads + Wait + Sync + Eprint>(
     request: &StudyRequest,
 ) -> Result<Vec<u8>, Memory>
     requires { MayBeStudied request.now }
+    ensures { IfOk result (λ text. AreTold form.entry request.now alternatives.now text.items) }
 {
     let mut out = Vec::new(alloc);
     let points = points_told(rt, alloc, &mut out, alternatives, form, request)?;

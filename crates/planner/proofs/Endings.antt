@@ -21,7 +21,10 @@ use Rattle.gw_chart.specs.Charts.{IsChart}
 use Rattle.gw_study.specs.Study.{IsStudy}
 use Rattle.gw_study.specs.declared.request.StudyRequest.{StudyRequest}
 use Rattle.gw_command_line.specs.Words.{Demand}
-use Rattle.planner.specs.Answers.{IsReported, asked, answering, is_plain, request_of, studied, studying}
+use Rattle.gw_alternatives.specs.declared.form.Form.{Form}
+use Rattle.gw_alternatives.specs.Alternatives.{ArePoints, AreModels}
+use Rattle.gw_alternatives.specs.Told.{IsAnswerAbout, IsToldOr}
+use Rattle.planner.specs.Answers.{IsReported, asked, answering, is_plain, request_of, words_of, studied_with, compared, studied, studying}
 use Rattle.gw_command_line.specs.declared.words.Question.{Question}
 use Rattle.gw_command_line.specs.declared.words.Question.TheVariants.{Explain, List as Lists, Chart, Convert, Trace, Report}
 
@@ -66,9 +69,21 @@ study : (bytes : List ℕ) (request : StudyRequest) (text : List ℕ) (status : 
 study bytes request text status (inl h) = inl h.0
 study bytes request text status (inr h) = inr h.0
 
-alone : (plain : Bool) (bytes : List ℕ) (request : StudyRequest) (text : List ℕ) (status : ℕ) → MatchBool plain (IsStudy bytes request text status) (IsEnd status) → IsEnd status
-alone true bytes request text status h = study bytes request text status h
-alone false bytes request text status h = h
+-- those of alternatives
+about : (form : Form) (request : StudyRequest) (alternatives : _) (text : List ℕ) (status : ℕ) → IsAnswerAbout form request alternatives text status → IsEnd status
+about form request alternatives text status (inl h) = inl h.0
+about form request alternatives text status (inr h) = inr h
+
+told : (Are : _) (form : Form) (request : StudyRequest) (text : List ℕ) (status : ℕ) → IsToldOr Are form request text status → IsEnd status
+told Are form request text status (inl h) = about form request h.0 text status h.2
+told Are form request text status (inr h) = inr h
+
+alone : (plain : Bool) (d : Demand) (bytes text : List ℕ) (status : ℕ) → MatchBool plain (IsStudy bytes (request_of d) text status) (studied_with d bytes text status) → IsEnd status
+alone true d bytes text status h = study bytes (request_of d) text status h
+alone false d bytes text status h = told (ArePoints bytes (words_of d.options) (request_of d).count) h.0 (request_of d) text status h.2
+
+pair : (d : Demand) (bytes text : List ℕ) (status : ℕ) → compared d bytes text status → IsEnd status
+pair d bytes text status h = told (AreModels h.0 h.1 (request_of d).count) h.2 (request_of d) text status h.5
 
 report : (seed count : ℕ) (bytes text : List ℕ) (status : ℕ) → IsReported seed count bytes text status → IsEnd status
 report seed count bytes text status (inl h) = request_ends (Run seed count) h.0 text status h.2
@@ -89,5 +104,5 @@ pub question_ends : (question : Question) → Ends (answering question)
 question_ends question bytes text status h = ends question _ text status h
 
 pub studying_ends : (is_pair : Bool) (d : Demand) → Ends (studying is_pair d)
-studying_ends true d bytes text status h = h
-studying_ends false d bytes text status h = alone (is_plain d.options) (take (MOST_BYTES + 1) bytes) (request_of d) text status h
+studying_ends true d bytes text status h = pair d (take (MOST_BYTES + 1) bytes) text status h
+studying_ends false d bytes text status h = alone (is_plain d.options) d (take (MOST_BYTES + 1) bytes) text status h

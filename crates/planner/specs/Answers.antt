@@ -1,5 +1,5 @@
 -- What the program writes.
-use Rattle.std.specs.Prelude.{◌≡◌, ◌≢◌, ◌≤◌, ◌<◌, ◌⊎◌, ℕ, ◌+◌, List, ◌++◌, take, codes, Option, is_none, Bool, true, false, not, ◌&&◌, MatchBool}
+use Rattle.std.specs.Prelude.{◌≡◌, ◌≢◌, ◌≤◌, ◌<◌, ◌⊎◌, ℕ, ◌+◌, List, ◌++◌, take, codes, Option, None, Some, option_to_list, is_none, Bool, true, false, not, ◌&&◌, MatchBool}
 use Rattle.std.specs.Option.{unwrap_or}
 use Rattle.gw_object.specs.declared.limits.TheConstants.{MOST_BYTES}
 use Rattle.gw_answers.specs.Status.{ended, no_memory}
@@ -16,7 +16,9 @@ use Rattle.gw_chart.specs.Charts.{IsChart}
 use Rattle.gw_convert.specs.Pieces.{IsConverted}
 use Rattle.gw_study.specs.Study.{IsStudy}
 use Rattle.gw_study.specs.declared.request.StudyRequest.{StudyRequest}
-use Rattle.gw_alternatives.specs.Ends.{IsEnd}
+use Rattle.gw_alternatives.specs.Told.{IsStudyOfPoints, IsComparison}
+use Rattle.gw_alternatives.specs.declared.form.Form.{Form}
+use Rattle.gw_alternatives.specs.declared.form.Form.TheVariants.{Table, Csv, Picture}
 use Rattle.gw_command_line.specs.Options.{Choices}
 use Rattle.gw_command_line.specs.Words.{Act, Ask, Code, Help, Version, Studies, Compares, Demand}
 use Rattle.gw_command_line.specs.declared.words.Question.{Question}
@@ -46,6 +48,10 @@ asked Convert = IsConversion
 asked (Trace from to) = AnswersModel (IsTrace from to)
 asked (Report seed count) = IsReported seed count
 
+-- two models in one input: behind its front, which says how long the first is, the first and then the second
+abbrev pub IsPair : List ℕ → List ℕ → List ℕ → Type 0
+IsPair bytes first second = (front : List ℕ) × (bytes ≡ front ++ first ++ second)
+
 -- a request for runs, by what the command line asks for
 abbrev pub request_of : Demand → StudyRequest
 request_of d = record {
@@ -61,13 +67,35 @@ request_of d = record {
 abbrev pub is_plain : Choices → Bool
 is_plain o = is_none o.first && is_none o.figure && not o.csv
 
--- what many runs of a model say: of the model as it is a study's table; with other numbers, or in another form, what is told ends so
+-- the words as `NURSES=2,3`
+abbrev pub words_of : Choices → List (List ℕ)
+words_of o = option_to_list o.first ++ option_to_list o.second ++ option_to_list o.third
+
+-- the form that is asked for
+abbrev pub IsFormOf : Choices → Form → Type 0
+IsFormOf o Table = (o.figure ≡ None) × (o.csv ≡ false)
+IsFormOf o Csv = (o.figure ≡ None) × (o.csv ≡ true)
+IsFormOf o (Picture figure) = o.figure ≡ Some figure.now
+
+-- what many runs of a model say with other numbers, or in another form
+abbrev pub studied_with : Demand → Answering
+studied_with d bytes text status =
+    (form : Form) × IsFormOf d.options form × IsStudyOfPoints bytes (words_of d.options) form (request_of d) text status
+
+-- what many runs of a model say: of the model as it is a study's table
 abbrev pub studied_alone : Demand → Answering
-studied_alone d bytes text status = MatchBool (is_plain d.options) (IsStudy bytes (request_of d) text status) (IsEnd status)
+studied_alone d bytes text status =
+    MatchBool (is_plain d.options) (IsStudy bytes (request_of d) text status) (studied_with d bytes text status)
+
+-- what many runs of two models say: the first of them stands behind its length, and the second behind that
+abbrev pub compared : Demand → Answering
+compared d bytes text status =
+    (first : List ℕ) × (second : List ℕ) × (form : Form) × IsFormOf d.options form
+    × IsPair bytes first second × IsComparison first second form (request_of d) text status
 
 -- what many runs say, of one model or of two
 abbrev pub studied : Bool → Demand → Answering
-studied true d bytes text status = IsEnd status
+studied true d bytes text status = compared d bytes text status
 studied false d bytes text status = studied_alone d bytes text status
 
 -- about what stands on a reader

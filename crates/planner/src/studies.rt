@@ -1,10 +1,10 @@
 //! Many runs of a model, or of two.
 
-ghost use Rattle.std.specs.Prelude.{◌≡◌, IfOk};
+ghost use Rattle.std.specs.Prelude.{◌≡◌, ◌++◌, map, option_map, option_to_list, IfOk, OnOk};
 ghost use Rattle.gw_command_line.specs.Asking.{MayBeMade};
 ghost use Rattle.gw_command_line.specs.Words.{study_view};
 ghost use Rattle.gw_command_line.specs.Options.{view};
-ghost use Rattle.planner.specs.Answers.{request_of as request_for, is_plain as plain, studied, studied_alone};
+ghost use Rattle.planner.specs.Answers.{request_of as request_for, is_plain as plain, words_of as words_for, studied, studied_alone, studied_with, compared, IsFormOf, IsPair};
 
 use byteorder::{BigEndian, ByteOrder};
 use gw_alternatives::{Form, compare, study_points};
@@ -36,27 +36,42 @@ fn request_of(study: &Study<'_>) -> StudyRequest
 }
 
 /// In which form it is asked for.
-fn form_of<'a>(options: &Options<'a>) -> Form<'a> {
+fn form_of<'a>(options: &Options<'a>) -> Form<'a>
+    ensures { IsFormOf (view options.now) result }
+{
     match options.figure {
         Some(figure) => Form::Picture(figure.as_bytes()),
-        None if options.csv => Form::Csv,
-        None => Form::Table,
+        None => { if options.csv { Form::Csv } else { Form::Table } }
     }
 }
 
-/// The words as `NURSES=2,3`.
-fn words_of<'a>(alloc: Global, options: &Options<'a>) -> Result<Vec<&'a [u8]>, Memory> {
-    let mut words = Vec::new(alloc);
-    for word in [options.first, options.second, options.third] {
-        if let Some(word) = word {
-            words.push(word.as_bytes())?;
-        }
+/// Adds a word, if there is one.
+fn put_word<'a>(words: &mut Vec<&'a [u8]>, word: Option<&'a str>) -> Result<(), Memory>
+    ensures { OnOk result (map (λ w. w.now) words.new.items
+        ≡ map (λ w. w.now) words.old.items ++ option_to_list (option_map (λ w. w.now) word.entry)) }
+{
+    if let Some(word) = word {
+        words.push(word.as_bytes())?;
     }
+    Ok(())
+}
+
+/// The words as `NURSES=2,3`.
+fn words_of<'a>(alloc: Global, options: &Options<'a>) -> Result<Vec<&'a [u8]>, Memory>
+    ensures { IfOk result (λ words.
+        map (λ w. w.now) words.items ≡ words_for (view options.now)) }
+{
+    let mut words = Vec::new(alloc);
+    put_word(&mut words, options.first)?;
+    put_word(&mut words, options.second)?;
+    put_word(&mut words, options.third)?;
     Ok(words)
 }
 
 /// Two models in one input: the first behind its length in four bytes, the highest first, and then the second.
-fn models_in(input: &[u8]) -> (&[u8], &[u8]) {
+fn models_in(input: &[u8]) -> (&[u8], &[u8])
+    ensures { IsPair input.now result.0.now result.1.now }
+{
     if input.len() < LENGTH_BYTES {
         return (&[], &[]);
     }
@@ -71,7 +86,23 @@ fn is_plain(options: &Options<'_>) -> bool
     options.first.is_none() && options.figure.is_none() && !options.csv
 }
 
-/// What many runs of a model say, with the numbers that options give.
+/// What many runs of a model say, with the numbers and in the form that options give.
+fn answer_with<T: Threads + Wait + Sync + Eprint>(
+    rt: &T,
+    alloc: Global,
+    asked: &Study<'_>,
+    text: &[u8],
+) -> Result<Answer, Memory>
+    requires { MayBeMade asked.now }
+    ensures { IfOk result (λ a. studied_with (study_view asked.now) text.now a.text.items a.status) }
+{
+    let words = words_of(alloc, &asked.options)?;
+    let form = form_of(&asked.options);
+    let request = request_of(asked);
+    study_points(rt, alloc, text, &words, form, &request)
+}
+
+/// What many runs of a model say.
 fn answer_alone<T: Threads + Wait + Sync + Eprint>(
     rt: &T,
     alloc: Global,
@@ -85,8 +116,23 @@ fn answer_alone<T: Threads + Wait + Sync + Eprint>(
     if is_plain(&asked.options) {
         return study(rt, alloc, text, &request);
     }
-    let words = words_of(alloc, &asked.options)?;
-    study_points(rt, alloc, text, &words, form_of(&asked.options), &request)
+    answer_with(rt, alloc, asked, text)
+}
+
+/// What many runs of two models say.
+fn answer_pair<T: Threads + Wait + Sync + Eprint>(
+    rt: &T,
+    alloc: Global,
+    asked: &Study<'_>,
+    input: &[u8],
+) -> Result<Answer, Memory>
+    requires { MayBeMade asked.now }
+    ensures { IfOk result (λ a. compared (study_view asked.now) input.now a.text.items a.status) }
+{
+    let (first, second) = models_in(input);
+    let form = form_of(&asked.options);
+    let request = request_of(asked);
+    compare(rt, alloc, first, second, form, &request)
 }
 
 /// What many runs of a model say, or of the two in an input.
@@ -101,15 +147,7 @@ pub fn answer_study<T: Threads + Wait + Sync + Eprint>(
     ensures { IfOk result (λ a. studied is_pair (study_view asked.now) input.now a.text.items a.status) }
 {
     if is_pair {
-        let (first, second) = models_in(input);
-        compare(
-            rt,
-            alloc,
-            first,
-            second,
-            form_of(&asked.options),
-            &request_of(asked),
-        )
+        answer_pair(rt, alloc, asked, input)
     } else {
         answer_alone(rt, alloc, asked, input)
     }

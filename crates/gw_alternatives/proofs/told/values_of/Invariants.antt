@@ -1,6 +1,7 @@
--- there is a value for each run before this one, and no more than 512
-use Rattle.std.proofs.Common.{◌≤◌, length}
+use Rattle.std.proofs.Common.{◌≡◌, map, take}
+use Rattle.gw_alternatives.specs.Told.{value_in}
 use Rattle.gw_alternatives.proofs.told.values_of.Given as goal
 
-abbrev pub invariant-loop-r : goal.invariant-loop-r
-invariant-loop-r l = length l.values.items ≤ l.r
+-- the values of the runs so far
+abbrev pub invariant-loop-run : goal.invariant-loop-run
+invariant-loop-run l = l.values.items ≡ map (value_in l.figure) (take l.run-index l.runs)

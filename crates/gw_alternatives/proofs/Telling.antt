@@ -1,0 +1,38 @@
+-- What is told of alternatives, or that something is refused.
+use Rattle.std.proofs.Common.{◌≡◌, ℕ, List, ◌∙◌, Result, Ok, Err, inl, inr, ap}
+use Rattle.std.specs.Prelude.{◌++◌, codes, IfOk, OnOk, MatchResult, Vec}
+use Rattle.std.specs.Global.{Global}
+use Rattle.gw_answers.specs.Status.{refused}
+use Rattle.gw_answers.specs.declared.answer.Answer.{Answer}
+use Rattle.gw_comparison.specs.declared.point.Point.{Point}
+use Rattle.gw_figures.specs.Labels.{labels}
+use Rattle.gw_study.specs.Study.{AreResultsOf, IsResultsText}
+use Rattle.gw_study.specs.declared.request.StudyRequest.{StudyRequest}
+use Rattle.gw_study.specs.declared.telling.Results.{Results}
+use Rattle.gw_alternatives.specs.declared.alternative.Alternative.{Alternative}
+use Rattle.gw_alternatives.specs.declared.alternatives.NoAlternative.{NoAlternative}
+use Rattle.gw_alternatives.specs.declared.form.Form.{Form}
+use Rattle.gw_alternatives.specs.Told.{AddsTable, AddsTableIn, head_line, IsAnswerAbout, IsPointBy, IsToldOr, TellsAlternative}
+
+pub told_or : {E : Type 0} (Are : List Alternative → Type 0) (form : Form) (request : StudyRequest) (found : Result (Vec Alternative Global) NoAlternative) (a : Result Answer E)
+    → IfOk found (λ all. Are all.items)
+    → MatchResult found (λ all. IfOk a (λ a. IsAnswerAbout form request all.items a.text.items a.status)) (λ none. IfOk a (λ a. a.status ≡ refused))
+    → IfOk a (λ a. IsToldOr Are form request a.text.items a.status)
+told_or Are form request (Ok all) (Ok a) are h = inl (all.items, are, h)
+told_or Are form request (Ok all) (Err e) are h = tt
+told_or Are form request (Err none) (Ok a) are h = inr h
+told_or Are form request (Err none) (Err e) are h = tt
+
+-- a head and a text are a table
+pub table_of : {E : Type 0} (r : Result (Unit {0}) E) (request : StudyRequest) (a : Alternative) (results : Results) (old head new text : List ℕ)
+    → head ≡ old ++ head_line a.name.items → IsResultsText (labels results.figures.items) results.runs.items request a.spec text
+    → OnOk r (new ≡ head ++ text ++ codes "\n") → OnOk r (AddsTable request a results old new)
+table_of (Ok u) request a results old head new text is told h = record { text = text; told = told; whole = h ∙ ap (λ x. x ++ text ++ codes "\n") is }
+table_of (Err e) request a results old head new text is told h = tt
+
+-- the runs of an alternative, its table and its point are what is told of it
+pub told_by : {E : Type 0} (r : Result Point E) (form : Form) (request : StudyRequest) (a : Alternative) (results : Results) (old new : List ℕ)
+    → AreResultsOf a.spec request results → AddsTableIn form request a results old new → IfOk r (IsPointBy request a results)
+    → IfOk r (λ point. TellsAlternative form request a point old new)
+told_by (Ok point) form request a results old new runs table h = record { results = results; runs = runs; point_is = h; table = table }
+told_by (Err e) form request a results old new runs table h = tt
