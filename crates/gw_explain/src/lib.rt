@@ -18,3 +18,4 @@ mod summary;
 
 pub use explaining::explain;
 pub use meaning::explain_code;
+pub use notes::notes_on;

@@ -1,10 +1,12 @@
 //! What is noted of a model that is accepted, in words.
 
 use crate::known::put_name;
+use gw_assemble::assemble;
 use gw_notes::{Note, notes};
 use gw_object::{Entity, Kind, Memory, Parts};
 use gw_report::text::{put, put_number};
-use gw_sources::Sources;
+use gw_sources::{Sources, sources};
+use gw_text::{Model, parse};
 use std::alloc::Global;
 
 /// What an entity is called, by its kind.
@@ -103,4 +105,27 @@ pub(crate) fn put_notes(
         put_note(out, parts.entities.as_slice(), &sources.blocks, *note)?;
     }
     Ok(())
+}
+
+/// The notes on a model that was read.
+fn notes_on_model(alloc: Global, model: &Model) -> Result<Vec<u8>, Memory> {
+    let mut out = Vec::new(alloc);
+    if let Ok(verified) = assemble(alloc, model) {
+        let sources = sources(alloc, model)?;
+        put_notes(alloc, &mut out, verified.object().parts(), &sources)?;
+    }
+    Ok(out)
+}
+
+/// The notes on a model text that is accepted, each in a line, as they stand in its explanation; none of one that is refused. `Err`
+/// where memory runs out.
+pub fn notes_on(alloc: Global, text: &[u8]) -> Result<Vec<u8>, Memory> {
+    match parse(alloc, text) {
+        Ok(model) => {
+            let notes = notes_on_model(alloc, &model);
+            drop(model);
+            notes
+        }
+        Err(_) => Ok(Vec::new(alloc)),
+    }
 }

@@ -10,6 +10,7 @@ use byteorder::{BigEndian, ByteOrder};
 use gw_alternatives::{Form, compare, study_points};
 use gw_answers::Answer;
 use gw_command_line::{Options, Study};
+use gw_explain::notes_on;
 use gw_object::Memory;
 use gw_study::{StudyRequest, study};
 use std::alloc::Global;
@@ -86,6 +87,16 @@ fn is_plain(options: &Options<'_>) -> bool
     options.first.is_none() && options.figure.is_none() && !options.csv
 }
 
+/// Tells on standard error what is noted of a model text that is accepted, as its explanation does. Where that can't be told it
+/// isn't: the study goes on.
+fn tell_notes<T: Eprint>(rt: &T, alloc: Global, text: &[u8]) {
+    if let Ok(notes) = notes_on(alloc, text)
+        && let Ok(words) = str::from_utf8(&notes)
+    {
+        let _ = rt.eprint(words);
+    }
+}
+
 /// What many runs of a model say, with the numbers and in the form that options give.
 fn answer_with<T: Threads + Wait + Sync + Eprint>(
     rt: &T,
@@ -112,6 +123,7 @@ fn answer_alone<T: Threads + Wait + Sync + Eprint>(
     requires { MayBeMade asked.now }
     ensures { IfOk result (λ a. studied_alone (study_view asked.now) text.now a.text.items a.status) }
 {
+    tell_notes(rt, alloc, text);
     let request = request_of(asked);
     if is_plain(&asked.options) {
         return study(rt, alloc, text, &request);
@@ -130,12 +142,14 @@ fn answer_pair<T: Threads + Wait + Sync + Eprint>(
     ensures { IfOk result (λ a. compared (study_view asked.now) input.now a.text.items a.status) }
 {
     let (first, second) = models_in(input);
+    tell_notes(rt, alloc, first);
+    tell_notes(rt, alloc, second);
     let form = form_of(&asked.options);
     let request = request_of(asked);
     compare(rt, alloc, first, second, form, &request)
 }
 
-/// What many runs of a model say, or of the two in an input.
+/// What many runs of a model say, or of the two in an input. What is noted of the models is told on standard error.
 pub fn answer_study<T: Threads + Wait + Sync + Eprint>(
     rt: &T,
     alloc: Global,
