@@ -1,3 +1,4 @@
 pub mod Places
 pub mod Series
 pub mod Looking
+pub mod Banding

@@ -2,14 +2,14 @@
 use Rattle.std.specs.Prelude.{Bool, ℕ, ◌+◌, ◌-◌, ◌*◌, ◌/◌, ◌%◌, ℤ, pos, ◌+ℤ◌, min, List, [], ◌++◌, length, slice_index, codes, nat_lt, ◌||◌, ◌&&◌, ◌==◌, if◌then◌else◌}
 use Rattle.gw_object.specs.declared.parts.Table.{Table}
 use Rattle.gw_chart.specs.declared.plot.Plot.{Plot}
-use Rattle.gw_drawing.specs.Steps.{Steps}
-use Rattle.gw_drawing.specs.Numbers.{scaled, greatest, scale_to, top_of}
+use Rattle.gw_drawing.specs.Numbers.{scaled, greatest}
 use Rattle.gw_drawing.specs.Text.{upto, tenths, text_at, signed_grouped}
+use Rattle.gw_chart.specs.Axes.{Levels, levels_to, reach_of}
 use Rattle.gw_chart.specs.Plots.{floor_of, height_of, colour_of, title, unit, below, levels}
 
 -- how high the bar of so many values is
-abbrev pub bar_height : Plot → Steps → ℕ → ℕ
-bar_height plot scale value = scaled (height_of plot) (min value (top_of scale)) (top_of scale)
+abbrev pub bar_height : Plot → Levels → ℕ → ℕ
+bar_height plot axis value = scaled (height_of plot) (min value (reach_of axis)) (reach_of axis)
 
 -- where the bar of a class of so many lies, by its number and its height
 abbrev pub bar_place : Plot → ℕ → ℕ → ℕ → List ℕ
@@ -23,9 +23,9 @@ bar_size plot classes height =
     ++ codes "\" fill=\"" ++ colour_of plot ++ codes "\"/>\n"
 
 -- the bar of a class of so many, by its number, with so many values
-abbrev pub bar : Plot → Steps → ℕ → ℕ → ℕ → List ℕ
-bar plot scale classes i value =
-    bar_place plot classes i (bar_height plot scale value) ++ bar_size plot classes (bar_height plot scale value)
+abbrev pub bar : Plot → Levels → ℕ → ℕ → ℕ → List ℕ
+bar plot axis classes i value =
+    bar_place plot classes i (bar_height plot axis value) ++ bar_size plot classes (bar_height plot axis value)
 
 -- the upper limit of a class
 abbrev pub limit_of : Table → ℕ → ℤ
@@ -51,20 +51,20 @@ limit_if_room plot table classes i =
     if has_room classes i then limit plot table classes i else []
 
 -- a class: its bar, and its upper limit
-abbrev pub class : Plot → Steps → Table → List ℕ → ℕ → List ℕ
-class plot scale table values i =
-    bar plot scale (length values) i (slice_index values i) ++ limit_if_room plot table (length values) i
+abbrev pub class : Plot → Levels → Table → List ℕ → ℕ → List ℕ
+class plot axis table values i =
+    bar plot axis (length values) i (slice_index values i) ++ limit_if_room plot table (length values) i
 
 -- the classes, one after the other
-unfoldable pub classes : Plot → Steps → Table → List ℕ → List ℕ
-classes plot scale table values = upto (class plot scale table values) (length values)
+unfoldable pub classes : Plot → Levels → Table → List ℕ → List ℕ
+classes plot axis table values = upto (class plot axis table values) (length values)
 
 -- a panel with its axes and its bars
-abbrev pub panel_with : Steps → Plot → List ℕ → Table → List ℕ → List ℕ
-panel_with scale plot name table values =
-    title name plot ++ unit plot ++ levels plot scale ++ classes plot scale table values
+abbrev pub panel_with : Levels → Plot → List ℕ → Table → List ℕ → List ℕ
+panel_with axis plot name table values =
+    title name plot ++ unit plot ++ levels plot axis ++ classes plot axis table values
     ++ below plot (codes "class, by its upper limit")
 
 -- the panel of a table, whose name is given, with so many values in each class
 unfoldable pub bar_panel : Plot → List ℕ → Table → List ℕ → List ℕ
-bar_panel plot name table values = panel_with (scale_to (greatest (slice_index values) (length values))) plot name table values
+bar_panel plot name table values = panel_with (levels_to (greatest (slice_index values) (length values)) 0) plot name table values

@@ -1,6 +1,6 @@
 -- The document: a panel for each facility, storage, queue, switch, user chain and table, one below the other.
-use Rattle.std.specs.Prelude.{ℕ, ◌+◌, max, List, [], ◌++◌, length, slice_get, codes, unsigned_abs, Option, Some, None}
-use Rattle.std.specs.Option.{option_map_or, option_and_then}
+use Rattle.std.specs.Prelude.{ℕ, ◌+◌, nat_lt, List, [], ◌∷◌, ◌++◌, length, slice_get, ℤ, codes, unsigned_abs, if◌then◌else◌}
+use Rattle.std.specs.Option.{option_map_or}
 use Rattle.std.specs.Fmt.{decimal}
 use Rattle.gw_object.specs.declared.parts.Entity.{Entity}
 use Rattle.gw_object.specs.declared.parts.Kind.{Kind}
@@ -9,8 +9,10 @@ use Rattle.gw_object.specs.declared.parts.Parts.{Parts}
 use Rattle.gw_step.specs.State.{State}
 use Rattle.gw_step.specs.Changes.{table}
 use Rattle.gw_chart.specs.declared.plot.Plot.{Plot}
+use Rattle.gw_chart.specs.declared.bands.Band.{Band}
+use Rattle.gw_chart.specs.declared.window.Window.{Window}
 use Rattle.gw_drawing.specs.Numbers.{total}
-use Rattle.gw_drawing.specs.Text.{upto, tenths, grouped}
+use Rattle.gw_drawing.specs.Text.{upto, tenths, escaped, grouped}
 use Rattle.gw_chart.specs.Plots.{plot_of, panel_height}
 use Rattle.gw_chart.specs.Lines.{line_panel, limit_of}
 use Rattle.gw_chart.specs.Bars.{bar_panel}
@@ -27,41 +29,51 @@ height_at entities e = option_map_or height_of (slice_get entities e) 0
 abbrev pub begins_at : List Entity → ℕ → ℕ
 begins_at entities e = 500 + total (height_at entities) e
 
--- how long the clock axis is: at least 1
-abbrev pub span_of : State → ℕ
-span_of s = max (unsigned_abs s.clock) 1
+-- what the title begins with: the name of what is run, if it has one
+abbrev pub subject : List ℕ → List ℕ
+subject [] = codes "One run"
+subject (byte ∷ name) = escaped (byte ∷ name) ++ codes ": one run"
 
--- what the document begins with: its height, and how long the run lasted
-unfoldable pub head : ℕ → ℕ → List ℕ
-head height clock =
-    codes "<?xml version=\"1.0\" encoding=\"UTF-8\"?>\n<svg xmlns=\"http://www.w3.org/2000/svg\" version=\"1.1\" width=\"720\" height=\""
-    ++ tenths height ++ codes "\" viewBox=\"0 0 720 " ++ tenths height
-    ++ codes "\" font-family=\"sans-serif\" font-size=\"12\">\n<rect width=\"100%\" height=\"100%\" fill=\"#fff\"/>\n<text x=\"80\" y=\"28\" font-size=\"15\" font-weight=\"bold\">One run, from clock 0 to "
-    ++ grouped (decimal clock)
-    ++ codes "</text>\n<text x=\"80\" y=\"45\" fill=\"#555\">Each line shows what stood at 500 moments, evenly apart.</text>\n"
+-- when the run ends, where more of it lies behind the window
+abbrev pub ending : ℕ → ℕ → List ℕ
+ending to end = if nat_lt to end then codes " of " ++ grouped (decimal end) else []
+
+-- the title: what is run, from where to where it is shown, and when it ends
+unfoldable pub heading : List ℕ → Window → ℕ → List ℕ
+heading name w end =
+    subject name ++ codes ", from clock " ++ grouped (decimal w.from) ++ codes " to " ++ grouped (decimal w.to) ++ ending w.to end
+
+-- what the document begins with: its height, and its title
+unfoldable pub head : ℕ → List ℕ → Window → ℕ → List ℕ
+head height name w end =
+    codes "<?xml version=\"1.0\" encoding=\"UTF-8\"?>\n<svg xmlns=\"http://www.w3.org/2000/svg\" version=\"1.1\" width=\"760\" height=\""
+    ++ tenths height ++ codes "\" viewBox=\"-40 0 760 " ++ tenths height
+    ++ codes "\" font-family=\"sans-serif\" font-size=\"12\">\n<rect x=\"-40\" width=\"100%\" height=\"100%\" fill=\"#fff\"/>\n<text x=\"80\" y=\"28\" font-size=\"15\" font-weight=\"bold\">"
+    ++ heading name w end
+    ++ codes "</text>\n<text x=\"80\" y=\"45\" fill=\"#555\">Lines: what stood at 500 moments, evenly apart. Pale strokes: the least and the greatest between.</text>\n"
 
 -- what is drawn in the panel of the entity of a number, which is of this kind and has this name
-abbrev pub drawn : Kind → Plot → List ℕ → State → List (List ℕ) → ℕ → List ℕ
-drawn (kinds.Table operands) plot name s rows e = bar_panel plot name operands (table e s).classes
-drawn kind plot name s rows e = line_panel plot name rows e (span_of s) (limit_of kind)
+abbrev pub drawn : Kind → Plot → List ℕ → Window → State → List (List ℤ) → List (List Band) → ℕ → List ℕ
+drawn (kinds.Table operands) plot name w s rows bands e = bar_panel plot name operands (table e s).classes
+drawn kind plot name w s rows bands e = line_panel plot name rows bands e w (limit_of kind)
 
 -- a panel, which begins so far below the upper end of the document
 abbrev pub placed : ℕ → List ℕ → List ℕ
 placed y inside = codes "<g transform=\"translate(0," ++ tenths y ++ codes ")\">\n" ++ inside ++ codes "</g>\n"
 
 -- the panel of an entity, if its kind has one
-abbrev pub panel_of : State → List (List ℕ) → ℕ → ℕ → Entity → List ℕ
-panel_of s rows y e entity = option_map_or (λ plot. placed y (drawn entity.kind plot entity.name s rows e)) (plot_of entity.kind) []
+abbrev pub panel_of : Window → State → List (List ℤ) → List (List Band) → ℕ → ℕ → Entity → List ℕ
+panel_of w s rows bands y e entity = option_map_or (λ plot. placed y (drawn entity.kind plot entity.name w s rows bands e)) (plot_of entity.kind) []
 
 -- the same for the entity of a number
-abbrev pub panel_at : State → List (List ℕ) → List Entity → ℕ → List ℕ
-panel_at s rows entities e = option_map_or (panel_of s rows (begins_at entities e) e) (slice_get entities e) []
+abbrev pub panel_at : Window → State → List (List ℤ) → List (List Band) → List Entity → ℕ → List ℕ
+panel_at w s rows bands entities e = option_map_or (panel_of w s rows bands (begins_at entities e) e) (slice_get entities e) []
 
 -- the panels of all entities
-unfoldable pub panels : State → List (List ℕ) → List Entity → List ℕ
-panels s rows entities = upto (panel_at s rows entities) (length entities)
+unfoldable pub panels : Window → State → List (List ℤ) → List (List Band) → List Entity → List ℕ
+panels w s rows bands entities = upto (panel_at w s rows bands entities) (length entities)
 
--- the document of a run whose last state this is, by what was in each entity at each moment
-unfoldable pub document : Parts → State → List (List ℕ) → List ℕ
-document p s rows =
-    head (begins_at p.entities (length p.entities)) (unsigned_abs s.clock) ++ panels s rows p.entities ++ codes "</svg>\n"
+-- the document of a window of a run whose last state this is, by what was in each entity at each moment and from each to the next
+unfoldable pub document : List ℕ → Window → Parts → State → List (List ℤ) → List (List Band) → List ℕ
+document name w p s rows bands =
+    head (begins_at p.entities (length p.entities)) name w (unsigned_abs s.clock) ++ panels w s rows bands p.entities ++ codes "</svg>\n"

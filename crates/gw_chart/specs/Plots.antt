@@ -1,12 +1,12 @@
 -- The plot of an entity: its axes, and what stands beside them. Places are in tenths of pixels: the plot lies from 80 to 700 from the left, and from 32 downwards in its panel.
-use Rattle.std.specs.Prelude.{ℕ, ◌+◌, ◌-◌, ◌*◌, ◌/◌, List, ◌++◌, codes, Option, Some, None}
+use Rattle.std.specs.Prelude.{ℕ, ◌+◌, ◌-◌, ◌/◌, List, ◌++◌, ℤ, pos, int_lt, unsigned_abs, min, codes, Option, Some, None, if◌then◌else◌}
 use Rattle.gw_object.specs.declared.parts.Kind.{Kind}
 use Rattle.gw_object.specs.declared.parts.Kind.TheVariants as kinds
 use Rattle.gw_chart.specs.declared.plot.Plot.{Plot}
-use Rattle.gw_chart.specs.declared.plot.Plot.TheVariants.{Owned, Units, Waiting, Set, Members, Classes}
-use Rattle.gw_drawing.specs.Steps.{Steps}
+use Rattle.gw_chart.specs.declared.plot.Plot.TheVariants.{Owned, Units, Waiting, Set, Members, Value, Classes}
 use Rattle.gw_drawing.specs.Numbers.{scaled}
-use Rattle.gw_drawing.specs.Text.{upto, escaped, tenths, text_at, label}
+use Rattle.gw_drawing.specs.Text.{upto, escaped, tenths, text_at, signed_grouped}
+use Rattle.gw_chart.specs.Axes.{Levels, reach_of, number_at}
 
 -- the plot of a kind of entity, if it has one
 abbrev pub plot_of : Kind → Option Plot
@@ -15,8 +15,14 @@ plot_of (kinds.Storage capacity) = Some Units
 plot_of kinds.Queue = Some Waiting
 plot_of (kinds.Switch set) = Some Set
 plot_of kinds.Chain = Some Members
+plot_of (kinds.Savevalue initial) = Some Value
 plot_of (kinds.Table operands) = Some Classes
 plot_of kind = None
+
+-- the plot of a kind of which a line is drawn
+abbrev pub line_of : Kind → Option Plot
+line_of (kinds.Table operands) = None
+line_of kind = plot_of kind
 
 -- what it shows
 abbrev pub shown_in : Plot → List ℕ
@@ -25,6 +31,7 @@ shown_in Units = codes "storage, units in it; its capacity is dashed"
 shown_in Waiting = codes "queue, units that wait"
 shown_in Set = codes "switch, 1 where it is set"
 shown_in Members = codes "user chain, members"
+shown_in Value = codes "savevalue, its value"
 shown_in Classes = codes "table, values in each class over the whole run"
 
 abbrev pub unit_of : Plot → List ℕ
@@ -33,6 +40,7 @@ unit_of Units = codes "units"
 unit_of Waiting = codes "waiting"
 unit_of Set = codes "set"
 unit_of Members = codes "members"
+unit_of Value = codes ""
 unit_of Classes = codes "values"
 
 abbrev pub colour_of : Plot → List ℕ
@@ -41,6 +49,7 @@ colour_of Units = codes "#228833"
 colour_of Waiting = codes "#cc5533"
 colour_of Set = codes "#997700"
 colour_of Members = codes "#117788"
+colour_of Value = codes "#aa4466"
 colour_of Classes = codes "#886699"
 
 -- how high the plot is
@@ -88,19 +97,32 @@ below plot words = text_at 3900 (floor_of plot + 330) (codes " text-anchor=\"mid
 
 -- THE UPRIGHT AXIS
 
--- the place of a step of the scale, from the upper end of the panel
-abbrev pub level_at : Plot → Steps → ℕ → ℕ
-level_at plot scale i = floor_of plot - scaled (height_of plot) i scale.count
+-- the place of a step, from the upper end of the panel
+abbrev pub level_at : Plot → Levels → ℕ → ℕ
+level_at plot axis i = floor_of plot - scaled (height_of plot) i axis.count
 
--- the level line at a step of the scale, and its number
-abbrev pub level : Plot → Steps → ℕ → List ℕ
-level plot scale i =
-    level_line (level_at plot scale i) ++ label 740 (level_at plot scale i + 40) (codes " text-anchor=\"end\"") (scale.step * i)
+-- the number of a step beside a place
+unfoldable pub number_text : ℕ → Levels → ℕ → List ℕ
+number_text y axis i = text_at 740 (y + 40) (codes " text-anchor=\"end\"") ++ signed_grouped (number_at axis i) ++ codes "</text>\n"
 
--- those at the steps below the end of the scale
-unfoldable pub lower_levels : Plot → Steps → List ℕ
-lower_levels plot scale = upto (level plot scale) scale.count
+-- the level line at a step, and its number
+abbrev pub level : Plot → Levels → ℕ → List ℕ
+level plot axis i = level_line (level_at plot axis i) ++ number_text (level_at plot axis i) axis i
 
--- those at each step, from 0 to the end of the scale
-unfoldable pub levels : Plot → Steps → List ℕ
-levels plot scale = lower_levels plot scale ++ level plot scale scale.count
+-- those at the steps below the end of the axis
+unfoldable pub lower_levels : Plot → Levels → List ℕ
+lower_levels plot axis = upto (level plot axis) axis.count
+
+-- those at each step, from the lowest to the end of the axis
+unfoldable pub levels : Plot → Levels → List ℕ
+levels plot axis = lower_levels plot axis ++ level plot axis axis.count
+
+-- how far from 0 a number is drawn; one that lies beyond the axis is drawn at most its whole reach from 0
+abbrev pub length_of : Plot → Levels → ℤ → ℕ
+length_of plot axis number = scaled (height_of plot) (min (unsigned_abs number) (reach_of axis)) (reach_of axis)
+
+-- the place of a number, from the upper end of the panel
+abbrev pub height_at : Plot → Levels → ℤ → ℕ
+height_at plot axis number =
+    if int_lt number (pos 0) then level_at plot axis axis.below + length_of plot axis number
+    else level_at plot axis axis.below - length_of plot axis number

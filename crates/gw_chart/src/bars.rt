@@ -5,11 +5,12 @@ ghost use Rattle.gw_drawing.specs.Numbers.{greatest as greatest_of};
 ghost use Rattle.gw_chart.specs.Plots.{height_of as plot_height};
 ghost use Rattle.gw_chart.specs.Bars as model;
 
+use crate::axis::Axis;
+use crate::levels::{axis_to, reach_of};
 use crate::plot::{
     Plot, colour_of, floor_of, height_of, put_below, put_levels, put_title, put_unit,
 };
-use gw_drawing::numbers::{scale_to, scaled, top_of};
-use gw_drawing::scale::Scale;
+use gw_drawing::numbers::scaled;
 use gw_drawing::text::{put, put_signed, put_tenths, put_text_at};
 use gw_object::{Memory, Table};
 
@@ -27,13 +28,13 @@ fn greatest(values: &[u64]) -> u64
 }
 
 /// How high the bar of so many values is.
-fn bar_height(plot: Plot, scale: Scale, value: u64) -> u64
-    ensures value { result ≡ model.bar_height plot scale value }
+fn bar_height(plot: Plot, axis: Axis, value: u64) -> u64
+    ensures value { result ≡ model.bar_height plot axis value }
     ensures most { result ≤ plot_height plot }
 {
-    let top = top_of(scale);
-    let shown = (value as u128).min(top) as u64;
-    scaled(height_of(plot), shown, top)
+    let reach = reach_of(axis);
+    let shown = (value as u128).min(reach) as u64;
+    scaled(height_of(plot), shown, reach)
 }
 
 /// Where the bar of a class of so many lies, by its number and its height.
@@ -74,15 +75,15 @@ fn put_bar_size(out: &mut Vec<u8>, plot: Plot, classes: u64, height: u64) -> Res
 fn put_bar(
     out: &mut Vec<u8>,
     plot: Plot,
-    scale: Scale,
+    axis: Axis,
     classes: u64,
     i: u64,
     value: u64,
 ) -> Result<(), Memory>
     requires { i < classes }
-    ensures { OnOk result (out.new.items ≡ out.old.items ++ model.bar plot scale classes i value) }
+    ensures { OnOk result (out.new.items ≡ out.old.items ++ model.bar plot axis classes i value) }
 {
-    let height = bar_height(plot, scale, value);
+    let height = bar_height(plot, axis, value);
     put_bar_place(out, plot, classes, i, height)?;
     put_bar_size(out, plot, classes, height)
 }
@@ -136,16 +137,16 @@ fn has_room(classes: u64, i: u64) -> bool
 fn put_class(
     out: &mut Vec<u8>,
     plot: Plot,
-    scale: Scale,
+    axis: Axis,
     table: &Table,
     values: &[u64],
     i: usize,
 ) -> Result<(), Memory>
     requires { i < length values.now }
     ensures { OnOk result (out.new.items ≡ out.old.items
-        ++ model.class plot scale table.now values.now i) }
+        ++ model.class plot axis table.now values.now i) }
 {
-    put_bar(out, plot, scale, values.len() as u64, i as u64, values[i])?;
+    put_bar(out, plot, axis, values.len() as u64, i as u64, values[i])?;
     if has_room(values.len() as u64, i as u64) {
         put_limit(out, plot, table, values.len() as u64, i as u64)
     } else {
@@ -158,15 +159,15 @@ fn put_class(
 fn put_classes(
     out: &mut Vec<u8>,
     plot: Plot,
-    scale: Scale,
+    axis: Axis,
     table: &Table,
     values: &[u64],
 ) -> Result<(), Memory>
     ensures { OnOk result (out.new.items ≡ out.old.items
-        ++ model.classes plot scale table.now values.now) }
+        ++ model.classes plot axis table.now values.now) }
 {
     for i in 0..values.len() {
-        put_class(out, plot, scale, table, values, i)?;
+        put_class(out, plot, axis, table, values, i)?;
     }
     Ok(())
 }
@@ -183,10 +184,10 @@ pub(crate) fn put_bar_panel(
     ensures { OnOk result (out.new.items ≡ out.old.items
         ++ model.bar_panel plot name.now table.now values.now) }
 {
-    let scale = scale_to(greatest(values));
+    let axis = axis_to(greatest(values), 0);
     put_title(out, name, plot)?;
     put_unit(out, plot)?;
-    put_levels(out, plot, scale)?;
-    put_classes(out, plot, scale, table, values)?;
+    put_levels(out, plot, axis)?;
+    put_classes(out, plot, axis, table, values)?;
     put_below(out, plot, "class, by its upper limit")
 }

@@ -4,17 +4,29 @@ ghost use Rattle.std.specs.Prelude.{◌≡◌, Some, IfOk};
 ghost use Rattle.gw_step.specs.Job.{Alone, IsFinal, start_of};
 ghost use Rattle.gw_answers.specs.Status.{ended as ended_status};
 ghost use Rattle.gw_model_jobs.specs.ModelJobs.{AnswersModel};
-ghost use Rattle.gw_chart.specs.Samples.{AreSamples};
-ghost use Rattle.gw_chart.specs.Charts.{EndsAt, IsChart};
+ghost use Rattle.gw_chart.specs.Samples.{AreSamples, AreAllBands};
+ghost use Rattle.gw_chart.specs.Windows.{clipped as clipped_to};
+ghost use Rattle.gw_chart.specs.Charts.{EndsAt, IsChart, IsSheet, Shows};
 
 use crate::document::put_document;
-use crate::samples::samples;
+use crate::samples::{Samples, take_samples};
+use crate::sheet::put_sheet;
+use crate::window::{Window, clipped};
 use gw_answers::status::ENDED;
 use gw_answers::{Answer, BUDGET, NoJob, refused, run_to_end};
 use gw_model_jobs::{Time, spec_of_text};
-use gw_object::{Items, Memory};
+use gw_object::Memory;
 use gw_scan::{Sim, Spec};
 use std::alloc::Global;
+
+/// In which form a run is shown.
+#[derive(Clone, Copy)]
+pub enum Form<'a> {
+    /// As a picture, under the name of what is run; it may be empty.
+    Picture(&'a [u8]),
+    /// As records.
+    Sheet,
+}
 
 /// The clock at the end of a run.
 fn end_of_run(sim: &mut Sim) -> Result<Time, Memory>
@@ -43,42 +55,109 @@ fn end_of(alloc: Global, spec: Spec) -> Result<Time, Memory>
     }
 }
 
-/// The charts of a run that has ended, by what stood in each entity at each moment.
-fn drawn(alloc: Global, sim: &Sim, rows: &[Items<u64>]) -> Result<Answer, Memory>
+/// The picture of a run that has ended, under a name, by what stood in each entity at each moment of a window.
+fn pictured(
+    alloc: Global,
+    sim: &Sim,
+    seen: &Samples,
+    window: Window,
+    name: &[u8],
+) -> Result<Answer, Memory>
     requires alone { Alone sim.now.job sim.now.state.steps sim.now.state }
     requires over { IsFinal sim.now.state }
-    requires sampled { AreSamples sim.now.job sim.now.state.clock rows.now }
-    ensures { IfOk result (λ a. (a.status ≡ ended_status) × IsChart sim.now.job a.text.items) }
+    requires sampled { AreSamples sim.now.job (clipped_to window sim.now.state.clock)
+        seen.now.rows.items }
+    requires between { AreAllBands sim.now.job (clipped_to window sim.now.state.clock)
+        seen.now.bands.items }
+    ensures { IfOk result (λ a. (a.status ≡ ended_status)
+        × IsChart window name.now sim.now.job a.text.items) }
 {
     let mut text = Vec::new(alloc);
-    put_document(&mut text, sim, rows)?;
+    let shown = clipped(window, Time(sim.clock()));
+    put_document(&mut text, name, shown, sim, seen)?;
     Ok(Answer {
         text,
         status: ENDED,
     })
 }
 
-/// The charts of a run, whose end is at this clock.
-fn chart_of_run(alloc: Global, sim: &mut Sim, end: Time) -> Result<Answer, Memory>
+/// The same as records.
+fn tabled(alloc: Global, sim: &Sim, seen: &Samples, window: Window) -> Result<Answer, Memory>
+    requires alone { Alone sim.now.job sim.now.state.steps sim.now.state }
+    requires over { IsFinal sim.now.state }
+    requires sampled { AreSamples sim.now.job (clipped_to window sim.now.state.clock)
+        seen.now.rows.items }
+    requires between { AreAllBands sim.now.job (clipped_to window sim.now.state.clock)
+        seen.now.bands.items }
+    ensures { IfOk result (λ a. (a.status ≡ ended_status)
+        × IsSheet window sim.now.job a.text.items) }
+{
+    let mut text = Vec::new(alloc);
+    let shown = clipped(window, Time(sim.clock()));
+    put_sheet(alloc, &mut text, shown, sim, seen)?;
+    Ok(Answer {
+        text,
+        status: ENDED,
+    })
+}
+
+/// What is shown of a run that has ended, by what stood in each entity at each moment of a window.
+fn shown(
+    alloc: Global,
+    sim: &Sim,
+    seen: &Samples,
+    window: Window,
+    form: Form<'_>,
+) -> Result<Answer, Memory>
+    requires alone { Alone sim.now.job sim.now.state.steps sim.now.state }
+    requires over { IsFinal sim.now.state }
+    requires sampled { AreSamples sim.now.job (clipped_to window sim.now.state.clock)
+        seen.now.rows.items }
+    requires between { AreAllBands sim.now.job (clipped_to window sim.now.state.clock)
+        seen.now.bands.items }
+    ensures { IfOk result (λ a. (a.status ≡ ended_status)
+        × Shows form.entry window sim.now.job a.text.items) }
+{
+    match form {
+        Form::Picture(name) => pictured(alloc, sim, seen, window, name),
+        Form::Sheet => tabled(alloc, sim, seen, window),
+    }
+}
+
+/// What is shown of a run, whose end is at this clock.
+fn shown_of_run(
+    alloc: Global,
+    sim: &mut Sim,
+    end: Time,
+    window: Window,
+    form: Form<'_>,
+) -> Result<Answer, Memory>
     requires budget { sim.old.job.budget ≡ BUDGET }
     requires start { start_of sim.old.job ≡ Some sim.old.state }
     requires end { EndsAt sim.old.job end.0 }
-    ensures { IfOk result (λ a. (a.status ≡ ended_status) × IsChart sim.old.job a.text.items) }
+    ensures { IfOk result (λ a. (a.status ≡ ended_status)
+        × Shows form.entry window sim.old.job a.text.items) }
 {
-    let rows = samples(alloc, sim, end)?;
+    let seen = take_samples(alloc, sim, clipped(window, end))?;
     run_to_end(sim)?;
-    drawn(alloc, sim, rows.as_slice())
+    shown(alloc, sim, &seen, window, form)
 }
 
-/// The charts of a job, whose run ends at this clock.
-fn chart_to(alloc: Global, spec: Spec, end: Time) -> Result<Answer, Memory>
+/// What is shown of a job, whose run ends at this clock.
+fn shown_to(
+    alloc: Global,
+    spec: Spec,
+    end: Time,
+    window: Window,
+    form: Form<'_>,
+) -> Result<Answer, Memory>
     requires budget { spec.budget ≡ BUDGET }
     requires end { EndsAt spec end.0 }
-    ensures { IfOk result (λ a. (a.status ≡ ended_status) × IsChart spec a.text.items) }
+    ensures { IfOk result (λ a. (a.status ≡ ended_status) × Shows form.entry window spec a.text.items) }
 {
     match Sim::start(alloc, spec) {
         Ok(mut sim) => {
-            let answer = chart_of_run(alloc, &mut sim, end);
+            let answer = shown_of_run(alloc, &mut sim, end, window, form);
             drop(sim);
             answer
         }
@@ -89,17 +168,17 @@ fn chart_to(alloc: Global, spec: Spec, end: Time) -> Result<Answer, Memory>
     }
 }
 
-/// The charts of a job.
-fn chart_of_job(alloc: Global, spec: Spec) -> Result<Answer, Memory>
+/// What is shown of a job.
+fn shown_of_job(alloc: Global, spec: Spec, window: Window, form: Form<'_>) -> Result<Answer, Memory>
     requires { spec.budget ≡ BUDGET }
-    ensures { IfOk result (λ a. (a.status ≡ ended_status) × IsChart spec a.text.items) }
+    ensures { IfOk result (λ a. (a.status ≡ ended_status) × Shows form.entry window spec a.text.items) }
 {
     let end = match spec.share() {
         Ok(shared) => end_of(alloc, shared),
         Err(memory) => Err(memory),
     };
     match end {
-        Ok(end) => chart_to(alloc, spec, end),
+        Ok(end) => shown_to(alloc, spec, end, window, form),
         Err(memory) => {
             drop(spec);
             Err(memory)
@@ -107,16 +186,40 @@ fn chart_of_job(alloc: Global, spec: Spec) -> Result<Answer, Memory>
     }
 }
 
-/// The charts of a model text: an SVG document with what was in each facility, storage and queue over a whole run, and with
-/// the classes of each table; or the line of the refusal, as the assembler's is printed.
-///
-/// It fails for want of memory.
-pub fn chart(alloc: Global, text: &[u8]) -> Result<Answer, Memory>
-    ensures { IfOk result (λ a. AnswersModel IsChart text.now a.text.items a.status) }
+/// What is shown of a model text in a form; or the line of the refusal, as the assembler's is printed.
+fn shown_of_text(
+    alloc: Global,
+    text: &[u8],
+    window: Window,
+    form: Form<'_>,
+) -> Result<Answer, Memory>
+    ensures { IfOk result (λ a.
+        AnswersModel (Shows form.entry window) text.now a.text.items a.status) }
 {
     match spec_of_text(alloc, text) {
-        Ok(spec) => chart_of_job(alloc, spec),
+        Ok(spec) => shown_of_job(alloc, spec, window, form),
         Err(NoJob::Refused(refusal)) => refused(alloc, refusal),
         Err(NoJob::OutOfMemory) => Err(Memory),
     }
+}
+
+/// The charts of a model text, under a name, which may be empty: an SVG document with what was in each facility, storage, queue,
+/// switch, user chain and savevalue over a window of its run, and with the classes of each table; or the line of the refusal, as
+/// the assembler's is printed.
+///
+/// It fails for want of memory.
+pub fn chart(alloc: Global, text: &[u8], window: Window, name: &[u8]) -> Result<Answer, Memory>
+    ensures { IfOk result (λ a.
+        AnswersModel (IsChart window name.now) text.now a.text.items a.status) }
+{
+    shown_of_text(alloc, text, window, Form::Picture(name))
+}
+
+/// The points of these lines as records, in the form of RFC 4180; or the line of the refusal.
+///
+/// It fails for want of memory.
+pub fn points(alloc: Global, text: &[u8], window: Window) -> Result<Answer, Memory>
+    ensures { IfOk result (λ a. AnswersModel (IsSheet window) text.now a.text.items a.status) }
+{
+    shown_of_text(alloc, text, window, Form::Sheet)
 }

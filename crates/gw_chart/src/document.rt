@@ -1,4 +1,4 @@
-//! The document: a panel for each facility, storage, queue, switch, user chain and table, one below the other.
+//! The document: a panel for each facility, storage, queue, switch, user chain, savevalue and table, one below the other.
 
 ghost use Rattle.std.specs.Prelude.{◌≡◌, ◌≤◌, ◌<◌, ◌+◌, ◌*◌, ◌++◌, length, OnOk};
 ghost use Rattle.gw_chart.specs.Document as model;
@@ -6,8 +6,10 @@ ghost use Rattle.gw_chart.specs.Document as model;
 use crate::bars::put_bar_panel;
 use crate::line::{limit_of, put_line_panel};
 use crate::plot::{Plot, panel_height, plot_of};
-use gw_drawing::text::{put, put_grouped, put_tenths};
-use gw_object::{Entity, Items, Kind, Memory};
+use crate::samples::Samples;
+use crate::window::Window;
+use gw_drawing::text::{put, put_escaped, put_grouped, put_tenths};
+use gw_object::{Entity, Kind, Memory};
 use gw_scan::Sim;
 
 /// How high the panel of an entity is; 0 where it has none.
@@ -45,33 +47,66 @@ fn begins_at(entities: &[Entity], number: usize) -> u64
     y
 }
 
-/// How long the clock axis is, in clock units: at least 1.
-fn span_of(sim: &Sim) -> u64
-    ensures value { result ≡ model.span_of sim.now.state }
-    ensures some { 0 < result }
+/// What the title begins with: the name of what is run, if it has one.
+fn put_subject(out: &mut Vec<u8>, name: &[u8]) -> Result<(), Memory>
+    ensures { OnOk result (out.new.items ≡ out.old.items ++ model.subject name.now) }
 {
-    sim.clock().unsigned_abs().max(1)
+    if name.is_empty() {
+        return put(out, "One run");
+    }
+    put_escaped(out, name)?;
+    put(out, ": one run")
 }
 
-/// What the document begins with: its height, and how long the run lasted.
-fn put_head(out: &mut Vec<u8>, height: u64, clock: u64) -> Result<(), Memory>
-    ensures { OnOk result (out.new.items ≡ out.old.items ++ model.head height clock) }
+/// When the run ends, where more of it lies behind the window.
+fn put_ending(out: &mut Vec<u8>, to: u64, end: u64) -> Result<(), Memory>
+    ensures { OnOk result (out.new.items ≡ out.old.items ++ model.ending to end) }
+{
+    if end <= to {
+        return Ok(());
+    }
+    put(out, " of ")?;
+    put_grouped(out, end as u128)
+}
+
+/// The title: what is run, from where to where it is shown, and when it ends.
+#[tactic(auto, unfolding(crate::specs::Document::heading))]
+fn put_heading(out: &mut Vec<u8>, name: &[u8], window: Window, end: u64) -> Result<(), Memory>
+    ensures { OnOk result (out.new.items ≡ out.old.items ++ model.heading name.now window end) }
+{
+    put_subject(out, name)?;
+    put(out, ", from clock ")?;
+    put_grouped(out, window.from as u128)?;
+    put(out, " to ")?;
+    put_grouped(out, window.to as u128)?;
+    put_ending(out, window.to, end)
+}
+
+/// What the document begins with: its height, and its title.
+fn put_head(
+    out: &mut Vec<u8>,
+    height: u64,
+    name: &[u8],
+    window: Window,
+    end: u64,
+) -> Result<(), Memory>
+    ensures { OnOk result (out.new.items ≡ out.old.items ++ model.head height name.now window end) }
 {
     put(
         out,
-        "<?xml version=\"1.0\" encoding=\"UTF-8\"?>\n<svg xmlns=\"http://www.w3.org/2000/svg\" version=\"1.1\" width=\"720\" height=\"",
+        "<?xml version=\"1.0\" encoding=\"UTF-8\"?>\n<svg xmlns=\"http://www.w3.org/2000/svg\" version=\"1.1\" width=\"760\" height=\"",
     )?;
     put_tenths(out, height)?;
-    put(out, "\" viewBox=\"0 0 720 ")?;
+    put(out, "\" viewBox=\"-40 0 760 ")?;
     put_tenths(out, height)?;
     put(
         out,
-        "\" font-family=\"sans-serif\" font-size=\"12\">\n<rect width=\"100%\" height=\"100%\" fill=\"#fff\"/>\n<text x=\"80\" y=\"28\" font-size=\"15\" font-weight=\"bold\">One run, from clock 0 to ",
+        "\" font-family=\"sans-serif\" font-size=\"12\">\n<rect x=\"-40\" width=\"100%\" height=\"100%\" fill=\"#fff\"/>\n<text x=\"80\" y=\"28\" font-size=\"15\" font-weight=\"bold\">",
     )?;
-    put_grouped(out, clock as u128)?;
+    put_heading(out, name, window, end)?;
     put(
         out,
-        "</text>\n<text x=\"80\" y=\"45\" fill=\"#555\">Each line shows what stood at 500 moments, evenly apart.</text>\n",
+        "</text>\n<text x=\"80\" y=\"45\" fill=\"#555\">Lines: what stood at 500 moments, evenly apart. Pale strokes: the least and the greatest between.</text>\n",
     )
 }
 
@@ -79,14 +114,15 @@ fn put_head(out: &mut Vec<u8>, height: u64, clock: u64) -> Result<(), Memory>
 fn put_drawn(
     out: &mut Vec<u8>,
     plot: Plot,
+    window: Window,
     sim: &Sim,
-    rows: &[Items<u64>],
+    seen: &Samples,
     number: u16,
     entity: &Entity,
 ) -> Result<(), Memory>
     requires { number < length sim.now.job.parts.entities }
     ensures { OnOk result (out.new.items ≡ out.old.items
-        ++ model.drawn entity.now.kind plot entity.now.name sim.now.state rows.now number) }
+        ++ model.drawn entity.now.kind plot entity.now.name window sim.now.state seen.now.rows.items seen.now.bands.items number) }
 {
     let name = entity.name.as_slice();
     match &entity.kind {
@@ -96,7 +132,7 @@ fn put_drawn(
         }
         _ => {
             let limit = limit_of(&entity.kind);
-            put_line_panel(out, plot, name, rows, number as usize, span_of(sim), limit)
+            put_line_panel(out, plot, name, seen, number as usize, window, limit)
         }
     }
 }
@@ -104,15 +140,16 @@ fn put_drawn(
 /// The panel of an entity, which has this number, if its kind has one; it begins so far below the upper end of the document.
 fn put_panel_of(
     out: &mut Vec<u8>,
+    window: Window,
     sim: &Sim,
-    rows: &[Items<u64>],
+    seen: &Samples,
     y: u64,
     number: u16,
     entity: &Entity,
 ) -> Result<(), Memory>
     requires { number < length sim.now.job.parts.entities }
     ensures { OnOk result (out.new.items ≡ out.old.items
-        ++ model.panel_of sim.now.state rows.now y number entity.now) }
+        ++ model.panel_of window sim.now.state seen.now.rows.items seen.now.bands.items y number entity.now) }
 {
     let Some(plot) = plot_of(&entity.kind) else {
         return Ok(());
@@ -120,26 +157,27 @@ fn put_panel_of(
     put(out, "<g transform=\"translate(0,")?;
     put_tenths(out, y)?;
     put(out, ")\">\n")?;
-    put_drawn(out, plot, sim, rows, number, entity)?;
+    put_drawn(out, plot, window, sim, seen, number, entity)?;
     put(out, "</g>\n")
 }
 
 /// The same for the entity of a number.
 fn put_panel_at(
     out: &mut Vec<u8>,
+    window: Window,
     sim: &Sim,
-    rows: &[Items<u64>],
+    seen: &Samples,
     number: u16,
 ) -> Result<(), Memory>
     requires { number < length sim.now.job.parts.entities }
     ensures { OnOk result (out.new.items ≡ out.old.items
-        ++ model.panel_at sim.now.state rows.now sim.now.job.parts.entities number) }
+        ++ model.panel_at window sim.now.state seen.now.rows.items seen.now.bands.items sim.now.job.parts.entities number) }
 {
     let entities = sim.spec().verified().object().parts().entities.as_slice();
     match entities.get(number as usize) {
         Some(entity) => {
             let y = begins_at(entities, number as usize);
-            put_panel_of(out, sim, rows, y, number, entity)
+            put_panel_of(out, window, sim, seen, y, number, entity)
         }
         None => Ok(()),
     }
@@ -147,27 +185,39 @@ fn put_panel_at(
 
 /// The panels of so many entities, from the first on.
 #[tactic(auto, unfolding(crate::specs::Document::panels))]
-fn put_panels(out: &mut Vec<u8>, sim: &Sim, rows: &[Items<u64>], count: usize) -> Result<(), Memory>
+fn put_panels(
+    out: &mut Vec<u8>,
+    window: Window,
+    sim: &Sim,
+    seen: &Samples,
+    count: usize,
+) -> Result<(), Memory>
     requires count { count ≡ length sim.now.job.parts.entities }
     requires few { count ≤ 1024 }
     ensures { OnOk result (out.new.items ≡ out.old.items
-        ++ model.panels sim.now.state rows.now sim.now.job.parts.entities) }
+        ++ model.panels window sim.now.state seen.now.rows.items seen.now.bands.items sim.now.job.parts.entities) }
 {
     for i in 0..count {
-        put_panel_at(out, sim, rows, i as u16)?;
+        put_panel_at(out, window, sim, seen, i as u16)?;
     }
     Ok(())
 }
 
-/// The document of a run, by its last state and what was in each entity at each moment.
+/// The document of a window of a run, by its last state and what was seen of it.
 #[tactic(auto, unfolding(crate::specs::Document::document))]
-pub(crate) fn put_document(out: &mut Vec<u8>, sim: &Sim, rows: &[Items<u64>]) -> Result<(), Memory>
+pub(crate) fn put_document(
+    out: &mut Vec<u8>,
+    name: &[u8],
+    window: Window,
+    sim: &Sim,
+    seen: &Samples,
+) -> Result<(), Memory>
     ensures { OnOk result (out.new.items ≡ out.old.items
-        ++ model.document sim.now.job.parts sim.now.state rows.now) }
+        ++ model.document name.now window sim.now.job.parts sim.now.state seen.now.rows.items seen.now.bands.items) }
 {
     let entities = sim.spec().verified().object().parts().entities.as_slice();
     let height = begins_at(entities, entities.len());
-    put_head(out, height, sim.clock().unsigned_abs())?;
-    put_panels(out, sim, rows, entities.len())?;
+    put_head(out, height, name, window, sim.clock().unsigned_abs())?;
+    put_panels(out, window, sim, seen, entities.len())?;
     put(out, "</svg>\n")
 }

@@ -1,15 +1,21 @@
 //! What is in an entity over time, as a line.
 
 ghost use Rattle.std.specs.Prelude.{◌≡◌, ◌≤◌, ◌<◌, ◌*◌, ◌+◌, ◌/◌, ◌++◌, length, OnOk};
+ghost use Rattle.std.specs.Int.{div_ceil};
 ghost use Rattle.gw_drawing.specs.Numbers.{round_step as step_of, greatest as greatest_of};
+ghost use Rattle.gw_chart.specs.Plots.{height_at as place_of_number};
 ghost use Rattle.gw_chart.specs.Lines as model;
 
+use crate::axis::Axis;
+use crate::bands::{Band, band_of};
+use crate::levels::{axis_to, depth_below, height_above};
 use crate::plot::{
-    Plot, colour_of, floor_of, height_of, put_below, put_levels, put_title, put_unit,
+    Plot, colour_of, floor_of, height_at, put_below, put_levels, put_title, put_unit,
     put_upright_line,
 };
-use gw_drawing::numbers::{round_step, scale_to, scaled, top_of};
-use gw_drawing::scale::Scale;
+use crate::samples::Samples;
+use crate::window::{Window, span_of};
+use gw_drawing::numbers::{round_step, scaled};
 use gw_drawing::text::{put, put_label, put_tenths};
 use gw_object::{Items, Kind, Memory};
 
@@ -18,47 +24,70 @@ use gw_object::{Items, Kind, Memory};
 struct Curve<'a> {
     /// The plot.
     plot: Plot,
-    /// The scale of its upright axis.
-    scale: Scale,
-    /// What was in each entity at each moment.
-    rows: &'a [Items<u64>],
+    /// The axis of its upright axis.
+    axis: Axis,
+    /// What was seen of the run.
+    seen: &'a Samples,
     /// The number of the entity.
     entity: usize,
 }
 
-/// The upright line at a step of the clock axis, which reaches so far, and its clock.
-fn put_clock(out: &mut Vec<u8>, plot: Plot, span: u64, step: u128, i: u64) -> Result<(), Memory>
-    requires { (0 < span) × (step * i ≤ span) }
-    ensures { OnOk result (out.new.items ≡ out.old.items ++ model.clock plot span step i) }
+/// How far it is along a clock axis of this length to a clock, which lies so far behind its begin.
+fn place_of(span: u64, part: u64) -> u64
+    requires { (0 < span) × (part ≤ span) }
+    ensures value { result ≡ model.place_of span part }
+    ensures most { result ≤ 7000 }
 {
-    let clock = step * i as u128;
-    let x = 800 + scaled(6200, clock as u64, span as u128);
+    800 + scaled(6200, part, span as u128)
+}
+
+/// The upright line at a clock on an axis that begins at another and reaches so far, and the clock.
+fn put_clock(out: &mut Vec<u8>, plot: Plot, from: u64, span: u64, time: u128) -> Result<(), Memory>
+    requires span { 0 < span }
+    requires within { (from ≤ time) × (time ≤ from + span) }
+    ensures { OnOk result (out.new.items ≡ out.old.items ++ model.clock plot from span time) }
+{
+    let x = place_of(span, (time - from as u128) as u64);
     put_upright_line(out, x, plot)?;
     put_label(
         out,
         x,
         floor_of(plot) + 160,
         " text-anchor=\"middle\"",
-        clock,
+        time,
     )
 }
 
-/// Those at each step within, from 0.
-#[tactic(auto, using(crate::proofs::Places::step_within), unfolding(crate::specs::Lines::clocks))]
-fn put_clocks(out: &mut Vec<u8>, plot: Plot, span: u64) -> Result<(), Memory>
-    requires { 0 < span }
-    ensures { OnOk result (out.new.items ≡ out.old.items ++ model.clocks plot span) }
+/// Those at the multiples of a step within, of which this is the first, and of which there are so many.
+fn put_clocks_by(
+    out: &mut Vec<u8>,
+    plot: Plot,
+    from: u64,
+    span: u64,
+    step: u128,
+) -> Result<(), Memory>
+    requires { (0 < span) × (0 < step) }
+    ensures { OnOk result (out.new.items ≡ out.old.items ++ model.clocks_by plot from span step) }
 {
-    let step = round_step(span);
-    let count = (span as u128 / step) as u64;
-    for i in 0..count {
-        put_clock(out, plot, span, step, i)?;
+    let first = (from as u128).div_ceil(step);
+    let behind = (from as u128 + span as u128) / step + 1;
+    for i in 0..behind.saturating_sub(first) {
+        put_clock(out, plot, from, span, step * (first + i))?;
     }
-    put_clock(out, plot, span, step, count)
+    Ok(())
+}
+
+/// Those at each round step within.
+#[tactic(auto, unfolding(crate::specs::Lines::clocks))]
+fn put_clocks(out: &mut Vec<u8>, plot: Plot, from: u64, span: u64) -> Result<(), Memory>
+    requires { 0 < span }
+    ensures { OnOk result (out.new.items ≡ out.old.items ++ model.clocks plot from span) }
+{
+    put_clocks_by(out, plot, from, span, round_step(span))
 }
 
 /// What was in an entity, by its number, at a moment, by its number; 0 where there is none.
-fn content(rows: &[Items<u64>], entity: usize, moment: usize) -> u64
+pub(crate) fn content(rows: &[Items<i64>], entity: usize, moment: usize) -> i64
     ensures { result ≡ model.content rows.now entity moment }
 {
     match rows.get(moment) {
@@ -67,26 +96,41 @@ fn content(rows: &[Items<u64>], entity: usize, moment: usize) -> u64
     }
 }
 
-/// The greatest content of an entity at the 500 moments, and at least 1.
+/// The least and the greatest of what was in an entity, by its number, from a moment, by its number, to the next; 0 where there are
+/// none.
+pub(crate) fn band_at(bands: &[Items<Band>], entity: usize, moment: usize) -> Band
+    ensures { result ≡ model.band_at bands.now entity moment }
+{
+    let none = band_of(0);
+    match bands.get(moment) {
+        Some(row) => row.as_slice().get(entity).copied().unwrap_or(none),
+        None => none,
+    }
+}
+
+/// How far what was in an entity lay above 0 at most, from each moment to the next, and at least 1.
 #[tactic(auto, using(crate::proofs::Series::greatest_more, crate::proofs::Series::greatest_none))]
-fn greatest(rows: &[Items<u64>], entity: usize) -> u64
-    ensures value { result ≡ greatest_of (model.content rows.now entity) 500 }
+fn most_in(bands: &[Items<Band>], entity: usize) -> u64
+    ensures value { result ≡ model.most_in bands.now entity }
     ensures some { 0 < result }
 {
     let mut most = 1;
-    for i in 0..500 {
-        most = most.max(content(rows, entity, i));
+    for i in 0..499 {
+        most = most.max(height_above(band_at(bands, entity, i).greatest));
     }
     most
 }
 
-/// The place of a content, from the upper end of a panel.
-fn height_at(plot: Plot, scale: Scale, value: u64) -> u64
-    ensures { result ≡ model.height_at plot scale value }
+/// How far it lay below 0 at most.
+#[tactic(auto, using(crate::proofs::Series::deepest_more, crate::proofs::Series::deepest_none))]
+fn least_in(bands: &[Items<Band>], entity: usize) -> u64
+    ensures { result ≡ model.least_in bands.now entity }
 {
-    let top = top_of(scale);
-    let shown = (value as u128).min(top) as u64;
-    floor_of(plot) - scaled(height_of(plot), shown, top)
+    let mut depth = 0;
+    for i in 0..499 {
+        depth = depth.max(depth_below(band_at(bands, entity, i).least));
+    }
+    depth
 }
 
 /// A point: a moment, by its number, and a place.
@@ -113,18 +157,18 @@ fn put_turn(out: &mut Vec<u8>, moment: u64, from: u64, to: u64) -> Result<(), Me
 fn put_points_after(out: &mut Vec<u8>, curve: &Curve<'_>, moment: usize) -> Result<(), Memory>
     requires { moment < 499 }
     ensures { OnOk result (out.new.items ≡ out.old.items
-        ++ model.points_after curve.now.plot curve.now.scale curve.now.rows.now curve.now.entity moment) }
+        ++ model.points_after curve.now.plot curve.now.axis curve.now.seen.now.rows.items curve.now.entity moment) }
 {
-    let from = content(curve.rows, curve.entity, moment);
-    let to = content(curve.rows, curve.entity, moment + 1);
+    let from = content(curve.seen.rows.as_slice(), curve.entity, moment);
+    let to = content(curve.seen.rows.as_slice(), curve.entity, moment + 1);
     if to == from {
         return Ok(());
     }
     put_turn(
         out,
         moment as u64 + 1,
-        height_at(curve.plot, curve.scale, from),
-        height_at(curve.plot, curve.scale, to),
+        height_at(curve.plot, curve.axis, from),
+        height_at(curve.plot, curve.axis, to),
     )
 }
 
@@ -132,10 +176,10 @@ fn put_points_after(out: &mut Vec<u8>, curve: &Curve<'_>, moment: usize) -> Resu
 fn put_point_at(out: &mut Vec<u8>, curve: &Curve<'_>, moment: usize) -> Result<(), Memory>
     requires { moment ≤ 499 }
     ensures { OnOk result (out.new.items ≡ out.old.items
-        ++ model.point_at curve.now.plot curve.now.scale curve.now.rows.now curve.now.entity moment) }
+        ++ model.point_at curve.now.plot curve.now.axis curve.now.seen.now.rows.items curve.now.entity moment) }
 {
-    let value = content(curve.rows, curve.entity, moment);
-    let y = height_at(curve.plot, curve.scale, value);
+    let value = content(curve.seen.rows.as_slice(), curve.entity, moment);
+    let y = height_at(curve.plot, curve.axis, value);
     put_point(out, moment as u64, y)
 }
 
@@ -143,7 +187,7 @@ fn put_point_at(out: &mut Vec<u8>, curve: &Curve<'_>, moment: usize) -> Result<(
 #[tactic(auto, unfolding(crate::specs::Lines::turns))]
 fn put_turns(out: &mut Vec<u8>, curve: &Curve<'_>) -> Result<(), Memory>
     ensures { OnOk result (out.new.items ≡ out.old.items
-        ++ model.turns curve.now.plot curve.now.scale curve.now.rows.now curve.now.entity) }
+        ++ model.turns curve.now.plot curve.now.axis curve.now.seen.now.rows.items curve.now.entity) }
 {
     for i in 0..499 {
         put_points_after(out, curve, i)?;
@@ -155,7 +199,7 @@ fn put_turns(out: &mut Vec<u8>, curve: &Curve<'_>) -> Result<(), Memory>
 #[tactic(auto, unfolding(crate::specs::Lines::points))]
 fn put_points(out: &mut Vec<u8>, curve: &Curve<'_>) -> Result<(), Memory>
     ensures { OnOk result (out.new.items ≡ out.old.items
-        ++ model.points curve.now.plot curve.now.scale curve.now.rows.now curve.now.entity) }
+        ++ model.points curve.now.plot curve.now.axis curve.now.seen.now.rows.items curve.now.entity) }
 {
     put_point_at(out, curve, 0)?;
     put_turns(out, curve)?;
@@ -166,7 +210,7 @@ fn put_points(out: &mut Vec<u8>, curve: &Curve<'_>) -> Result<(), Memory>
 #[tactic(auto, unfolding(crate::specs::Lines::line))]
 fn put_polyline(out: &mut Vec<u8>, curve: &Curve<'_>) -> Result<(), Memory>
     ensures { OnOk result (out.new.items ≡ out.old.items
-        ++ model.line curve.now.plot curve.now.scale curve.now.rows.now curve.now.entity) }
+        ++ model.line curve.now.plot curve.now.axis curve.now.seen.now.rows.items curve.now.entity) }
 {
     put(out, "<polyline fill=\"none\" stroke=\"")?;
     put(out, colour_of(curve.plot))?;
@@ -175,18 +219,101 @@ fn put_polyline(out: &mut Vec<u8>, curve: &Curve<'_>) -> Result<(), Memory>
     put(out, "\"/>\n")
 }
 
+/// Whether the least and the greatest lie beyond what was in an entity at both moments.
+fn is_beyond(band: Band, before: i64, behind: i64) -> bool
+    ensures { result ≡ model.is_beyond band before behind }
+{
+    band.least < before.min(behind) || before.max(behind) < band.greatest
+}
+
+/// The place of the greatest, from the upper end of a panel.
+fn greatest_at(plot: Plot, axis: Axis, band: Band) -> u64
+    ensures { result ≡ place_of_number plot axis band.greatest }
+{
+    height_at(plot, axis, band.greatest)
+}
+
+/// The place of the least.
+fn least_at(plot: Plot, axis: Axis, band: Band) -> u64
+    ensures { result ≡ place_of_number plot axis band.least }
+{
+    height_at(plot, axis, band.least)
+}
+
+/// An upright stroke from the greatest to the least, halfway between two moments.
+fn put_stroke(
+    out: &mut Vec<u8>,
+    plot: Plot,
+    axis: Axis,
+    band: Band,
+    moment: u64,
+) -> Result<(), Memory>
+    requires { moment < 499 }
+    ensures { OnOk result (out.new.items ≡ out.old.items ++ model.stroke plot axis band moment) }
+{
+    put(out, "M")?;
+    put_tenths(out, 800 + scaled(6200, 2 * moment + 1, 998))?;
+    put(out, " ")?;
+    put_tenths(out, greatest_at(plot, axis, band))?;
+    put(out, "V")?;
+    put_tenths(out, least_at(plot, axis, band))
+}
+
+/// The stroke between a moment and the next, where there is one.
+fn put_stroke_at(out: &mut Vec<u8>, curve: &Curve<'_>, moment: usize) -> Result<(), Memory>
+    requires { moment < 499 }
+    ensures { OnOk result (out.new.items ≡ out.old.items
+        ++ model.stroke_at curve.now.plot curve.now.axis curve.now.seen.now.rows.items
+        curve.now.seen.now.bands.items curve.now.entity moment) }
+{
+    let before = content(curve.seen.rows.as_slice(), curve.entity, moment);
+    let behind = content(curve.seen.rows.as_slice(), curve.entity, moment + 1);
+    let band = band_at(curve.seen.bands.as_slice(), curve.entity, moment);
+    if !is_beyond(band, before, behind) {
+        return Ok(());
+    }
+    put_stroke(out, curve.plot, curve.axis, band, moment as u64)
+}
+
+/// Those between all moments.
+#[tactic(auto, unfolding(crate::specs::Lines::strokes))]
+fn put_strokes(out: &mut Vec<u8>, curve: &Curve<'_>) -> Result<(), Memory>
+    ensures { OnOk result (out.new.items ≡ out.old.items
+        ++ model.strokes curve.now.plot curve.now.axis curve.now.seen.now.rows.items
+        curve.now.seen.now.bands.items curve.now.entity) }
+{
+    for i in 0..499 {
+        put_stroke_at(out, curve, i)?;
+    }
+    Ok(())
+}
+
+/// What came and went.
+#[tactic(auto, unfolding(crate::specs::Lines::peaks))]
+fn put_peaks(out: &mut Vec<u8>, curve: &Curve<'_>) -> Result<(), Memory>
+    ensures { OnOk result (out.new.items ≡ out.old.items
+        ++ model.peaks curve.now.plot curve.now.axis curve.now.seen.now.rows.items
+        curve.now.seen.now.bands.items curve.now.entity) }
+{
+    put(out, "<path stroke-opacity=\"0.4\" stroke=\"")?;
+    put(out, colour_of(curve.plot))?;
+    put(out, "\" d=\"")?;
+    put_strokes(out, curve)?;
+    put(out, "\"/>\n")
+}
+
 /// How much fits an entity, if it has a capacity.
-pub(crate) fn limit_of(kind: &Kind) -> Option<u64>
+pub(crate) fn limit_of(kind: &Kind) -> Option<u32>
     ensures { result ≡ model.limit_of kind.now }
 {
     match kind {
-        Kind::Storage(capacity) => Some(u64::from(*capacity)),
+        Kind::Storage(capacity) => Some(*capacity),
         _ => None,
     }
 }
 
 /// A limit, where it is at most ten times as much as is in an entity.
-fn limit_within(most: u64, limit: Option<u64>) -> Option<u64>
+fn limit_within(most: u64, limit: Option<u32>) -> Option<u32>
     ensures { result ≡ model.limit_within most limit }
 {
     match limit {
@@ -196,20 +323,27 @@ fn limit_within(most: u64, limit: Option<u64>) -> Option<u64>
 }
 
 /// How far the upright axis reaches: to the greatest content, and to the limit.
-fn reach_to(most: u64, limit: Option<u64>) -> u64
+fn reach_to(most: u64, limit: Option<u32>) -> u64
     requires { 0 < most }
     ensures value { result ≡ model.reach_to most limit }
     ensures some { 0 < result }
 {
-    most.max(limit.unwrap_or(1))
+    most.max(u64::from(limit.unwrap_or(1)))
+}
+
+/// The place of a limit, from the upper end of a panel.
+fn limit_at(plot: Plot, axis: Axis, limit: u32) -> u64
+    ensures { result ≡ model.limit_at plot axis limit }
+{
+    height_at(plot, axis, i64::from(limit))
 }
 
 /// A dashed level line at a limit.
-fn put_limit(out: &mut Vec<u8>, plot: Plot, scale: Scale, limit: u64) -> Result<(), Memory>
-    ensures { OnOk result (out.new.items ≡ out.old.items ++ model.limit plot scale limit) }
+fn put_limit(out: &mut Vec<u8>, plot: Plot, axis: Axis, limit: u32) -> Result<(), Memory>
+    ensures { OnOk result (out.new.items ≡ out.old.items ++ model.limit plot axis limit) }
 {
     put(out, "<path d=\"M80.0 ")?;
-    put_tenths(out, height_at(plot, scale, limit))?;
+    put_tenths(out, limit_at(plot, axis, limit))?;
     put(out, "H700.0\" stroke=\"#333\" stroke-dasharray=\"4 4\"/>\n")
 }
 
@@ -217,13 +351,13 @@ fn put_limit(out: &mut Vec<u8>, plot: Plot, scale: Scale, limit: u64) -> Result<
 fn put_limit_line(
     out: &mut Vec<u8>,
     plot: Plot,
-    scale: Scale,
-    limit: Option<u64>,
+    axis: Axis,
+    limit: Option<u32>,
 ) -> Result<(), Memory>
-    ensures { OnOk result (out.new.items ≡ out.old.items ++ model.limit_line plot scale limit) }
+    ensures { OnOk result (out.new.items ≡ out.old.items ++ model.limit_line plot axis limit) }
 {
     match limit {
-        Some(limit) => put_limit(out, plot, scale, limit),
+        Some(limit) => put_limit(out, plot, axis, limit),
         None => Ok(()),
     }
 }
@@ -233,73 +367,73 @@ fn put_axes(
     out: &mut Vec<u8>,
     plot: Plot,
     name: &[u8],
-    scale: Scale,
-    span: u64,
-    limit: Option<u64>,
+    axis: Axis,
+    window: Window,
+    limit: Option<u32>,
 ) -> Result<(), Memory>
-    requires { 0 < span }
     ensures { OnOk result (out.new.items ≡ out.old.items
-        ++ model.axes scale plot name.now span limit) }
+        ++ model.axes axis plot name.now window limit) }
 {
     put_title(out, name, plot)?;
     put_unit(out, plot)?;
-    put_levels(out, plot, scale)?;
-    put_clocks(out, plot, span)?;
+    put_levels(out, plot, axis)?;
+    put_clocks(out, plot, window.from, span_of(window))?;
     put_below(out, plot, "clock units")?;
-    put_limit_line(out, plot, scale, limit)
+    put_limit_line(out, plot, axis, limit)
 }
 
-/// The panel of an entity in which there is so much at most.
+/// The panel of an entity in which there is so much at most, and so far below 0 at least.
 fn put_panel_to(
     out: &mut Vec<u8>,
     plot: Plot,
     name: &[u8],
-    rows: &[Items<u64>],
+    seen: &Samples,
     entity: usize,
-    span: u64,
+    window: Window,
     most: u64,
-    limit: Option<u64>,
+    depth: u64,
+    limit: Option<u32>,
 ) -> Result<(), Memory>
-    requires { (0 < span) × (0 < most) }
+    requires { 0 < most }
     ensures { OnOk result (out.new.items ≡ out.old.items
-        ++ model.panel_to most limit plot name.now rows.now entity span) }
+        ++ model.panel_to most depth limit plot name.now seen.now.rows.items seen.now.bands.items entity window) }
 {
-    let scale = scale_to(reach_to(most, limit));
-    put_axes(out, plot, name, scale, span, limit)?;
+    let axis = axis_to(reach_to(most, limit), depth);
+    put_axes(out, plot, name, axis, window, limit)?;
     let curve = Curve {
         plot,
-        scale,
-        rows,
+        axis,
+        seen,
         entity,
     };
+    put_peaks(out, &curve)?;
     put_polyline(out, &curve)
 }
 
-/// The panel of an entity, whose name and number are given, over a run that lasts so many clock units, with its limit if it has
-/// one.
+/// The panel of an entity, whose name and number are given, over a window, with its limit if it has one.
 #[tactic(auto, unfolding(crate::specs::Lines::line_panel))]
 pub(crate) fn put_line_panel(
     out: &mut Vec<u8>,
     plot: Plot,
     name: &[u8],
-    rows: &[Items<u64>],
+    seen: &Samples,
     entity: usize,
-    span: u64,
-    limit: Option<u64>,
+    window: Window,
+    limit: Option<u32>,
 ) -> Result<(), Memory>
-    requires { 0 < span }
     ensures { OnOk result (out.new.items ≡ out.old.items
-        ++ model.line_panel plot name.now rows.now entity span limit) }
+        ++ model.line_panel plot name.now seen.now.rows.items seen.now.bands.items entity window limit) }
 {
-    let most = greatest(rows, entity);
+    let most = most_in(seen.bands.as_slice(), entity);
     put_panel_to(
         out,
         plot,
         name,
-        rows,
+        seen,
         entity,
-        span,
+        window,
         most,
+        least_in(seen.bands.as_slice(), entity),
         limit_within(most, limit),
     )
 }

@@ -3,9 +3,10 @@
 ghost use Rattle.std.specs.Prelude.{◌≡◌, ◌≤◌, ◌<◌, ◌*◌, ◌+◌, ◌^◌, ◌++◌, OnOk};
 ghost use Rattle.gw_chart.specs.Plots as model;
 
-use gw_drawing::numbers::{count_of, number_at, scaled};
-use gw_drawing::scale::Scale;
-use gw_drawing::text::{put, put_escaped, put_label, put_tenths, put_text_at};
+use crate::axis::Axis;
+use crate::levels::{below_of, count_of, number_at, reach_of};
+use gw_drawing::numbers::scaled;
+use gw_drawing::text::{put, put_escaped, put_signed, put_tenths, put_text_at};
 use gw_object::{Kind, Memory};
 
 /// What is drawn of an entity.
@@ -21,6 +22,8 @@ pub enum Plot {
     Set,
     /// The members of a user chain.
     Members,
+    /// The value of a savevalue.
+    Value,
     /// The classes of a table.
     Classes,
 }
@@ -35,8 +38,19 @@ pub(crate) fn plot_of(kind: &Kind) -> Option<Plot>
         Kind::Queue => Some(Plot::Waiting),
         Kind::Switch(_) => Some(Plot::Set),
         Kind::Chain => Some(Plot::Members),
+        Kind::Savevalue(_) => Some(Plot::Value),
         Kind::Table(_) => Some(Plot::Classes),
         _ => None,
+    }
+}
+
+/// The plot of a kind of entity of which a line is drawn.
+pub(crate) fn line_of(kind: &Kind) -> Option<Plot>
+    ensures { result ≡ model.line_of kind.now }
+{
+    match kind {
+        Kind::Table(_) => None,
+        _ => plot_of(kind),
     }
 }
 
@@ -60,6 +74,7 @@ fn words_of(plot: Plot) -> Words
         Plot::Waiting => ("queue, units that wait", "waiting"),
         Plot::Set => ("switch, 1 where it is set", "set"),
         Plot::Members => ("user chain, members", "members"),
+        Plot::Value => ("savevalue, its value", ""),
         Plot::Classes => ("table, values in each class over the whole run", "values"),
     };
     Words { shown, unit }
@@ -75,6 +90,7 @@ pub(crate) fn colour_of(plot: Plot) -> &'static str
         Plot::Waiting => "#cc5533",
         Plot::Set => "#997700",
         Plot::Members => "#117788",
+        Plot::Value => "#aa4466",
         Plot::Classes => "#886699",
     }
 }
@@ -166,49 +182,78 @@ pub(crate) fn put_below(out: &mut Vec<u8>, plot: Plot, words: &str) -> Result<()
     put(out, "</text>\n")
 }
 
-/// The place of a step of the scale, from the upper end of a panel.
-fn level_at(plot: Plot, scale: Scale, i: u64) -> u64
-    requires { i ≤ scale.count }
-    ensures value { result ≡ model.level_at plot scale i }
+/// The place of a step, from the upper end of a panel.
+fn level_at(plot: Plot, axis: Axis, i: u64) -> u64
+    requires { i ≤ axis.count }
+    ensures value { result ≡ model.level_at plot axis i }
     ensures most { result ≤ 1320 }
 {
-    floor_of(plot) - scaled(height_of(plot), i, count_of(scale) as u128)
+    floor_of(plot) - scaled(height_of(plot), i, count_of(axis) as u128)
 }
 
-/// The level line at a step of the scale, and its number.
-fn put_level(out: &mut Vec<u8>, plot: Plot, scale: Scale, i: u64) -> Result<(), Memory>
-    requires { i ≤ scale.count }
-    ensures { OnOk result (out.new.items ≡ out.old.items ++ model.level plot scale i) }
+/// The number of a step beside a place.
+#[tactic(auto, unfolding(crate::specs::Plots::number_text))]
+fn put_number_text(out: &mut Vec<u8>, y: u64, axis: Axis, i: u64) -> Result<(), Memory>
+    requires place { y ≤ 1320 }
+    requires step { i ≤ axis.count }
+    ensures { OnOk result (out.new.items ≡ out.old.items ++ model.number_text y axis i) }
 {
-    let y = level_at(plot, scale, i);
-    put_level_line(out, y)?;
-    put_label(
-        out,
-        740,
-        y + 40,
-        " text-anchor=\"end\"",
-        number_at(scale, i),
-    )
+    put_text_at(out, 740, y + 40, " text-anchor=\"end\"")?;
+    put_signed(out, number_at(axis, i))?;
+    put(out, "</text>\n")
 }
 
-/// The level lines at the steps below the end of the scale, and their numbers.
+/// The level line at a step, and its number.
+fn put_level(out: &mut Vec<u8>, plot: Plot, axis: Axis, i: u64) -> Result<(), Memory>
+    requires { i ≤ axis.count }
+    ensures { OnOk result (out.new.items ≡ out.old.items ++ model.level plot axis i) }
+{
+    let y = level_at(plot, axis, i);
+    put_level_line(out, y)?;
+    put_number_text(out, y, axis, i)
+}
+
+/// The level lines at the steps below the end of the axis, and their numbers.
 #[tactic(auto, unfolding(crate::specs::Plots::lower_levels))]
-fn put_lower_levels(out: &mut Vec<u8>, plot: Plot, scale: Scale, count: u64) -> Result<(), Memory>
-    requires { count ≡ scale.count }
-    ensures { OnOk result (out.new.items ≡ out.old.items ++ model.lower_levels plot scale) }
+fn put_lower_levels(out: &mut Vec<u8>, plot: Plot, axis: Axis, count: u64) -> Result<(), Memory>
+    requires { count ≡ axis.count }
+    ensures { OnOk result (out.new.items ≡ out.old.items ++ model.lower_levels plot axis) }
 {
     for i in 0..count {
-        put_level(out, plot, scale, i)?;
+        put_level(out, plot, axis, i)?;
     }
     Ok(())
 }
 
-/// The level lines at each step, from 0 to the end of the scale, and their numbers.
+/// The level lines at each step, from the lowest to the end of the axis, and their numbers.
 #[tactic(auto, unfolding(crate::specs::Plots::levels))]
-pub(crate) fn put_levels(out: &mut Vec<u8>, plot: Plot, scale: Scale) -> Result<(), Memory>
-    ensures { OnOk result (out.new.items ≡ out.old.items ++ model.levels plot scale) }
+pub(crate) fn put_levels(out: &mut Vec<u8>, plot: Plot, axis: Axis) -> Result<(), Memory>
+    ensures { OnOk result (out.new.items ≡ out.old.items ++ model.levels plot axis) }
 {
-    let count = count_of(scale);
-    put_lower_levels(out, plot, scale, count)?;
-    put_level(out, plot, scale, count)
+    let count = count_of(axis);
+    put_lower_levels(out, plot, axis, count)?;
+    put_level(out, plot, axis, count)
+}
+
+/// How far from 0 a number is drawn.
+fn length_of(plot: Plot, axis: Axis, number: i64) -> u64
+    ensures value { result ≡ model.length_of plot axis number }
+    ensures most { result ≤ 1000 }
+{
+    let reach = reach_of(axis);
+    let shown = (number.unsigned_abs() as u128).min(reach) as u64;
+    scaled(height_of(plot), shown, reach)
+}
+
+/// The place of a number, from the upper end of a panel.
+pub(crate) fn height_at(plot: Plot, axis: Axis, number: i64) -> u64
+    ensures { result ≡ model.height_at plot axis number }
+{
+    let zero = level_at(plot, axis, below_of(axis));
+    let length = length_of(plot, axis, number);
+    if number < 0 {
+        zero + length
+    } else {
+        zero.saturating_sub(length)
+    }
 }

@@ -4,5 +4,5 @@ use Rattle.gw_chart.proofs.document.put_panels.Given as goal
 
 abbrev pub invariant-loop-i : goal.invariant-loop-i
 invariant-loop-i l =
-    HasUpto (panel_at l.sim.state l.rows l.sim.job.parts.entities)
+    HasUpto (panel_at l.window l.sim.state l.seen.rows.items l.seen.bands.items l.sim.job.parts.entities)
     l.i l.initial.out.items l.out.items

@@ -10,5 +10,5 @@ unfolding line
 returns c =
     IfOk-equal c.put-4.result _ _ _ c.put-4.ensures
     (chain5 _ _ _ _ _ (codes "<polyline fill=\"none\" stroke=\"") (colour_of c.args.curve.now.plot) (codes "\" points=\"")
-    (points c.args.curve.now.plot c.args.curve.now.scale c.args.curve.now.rows.now c.args.curve.now.entity) (codes "\"/>\n")
+    (points c.args.curve.now.plot c.args.curve.now.axis c.args.curve.now.seen.now.rows.items c.args.curve.now.entity) (codes "\"/>\n")
     c.in_ok-put.ensures (rw c.colour_of.ensures at c.in_ok-put-2.ensures) c.in_ok-put-3.ensures c.in_ok-put_points.ensures)

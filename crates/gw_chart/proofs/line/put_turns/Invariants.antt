@@ -4,5 +4,5 @@ use Rattle.gw_chart.proofs.line.put_turns.Given as goal
 
 abbrev pub invariant-loop-i : goal.invariant-loop-i
 invariant-loop-i l =
-    HasUpto (points_after l.curve.plot l.curve.scale l.curve.rows.now l.curve.entity)
+    HasUpto (points_after l.curve.plot l.curve.axis l.curve.seen.now.rows.items l.curve.entity)
     l.i l.initial.out.items l.out.items

@@ -1,4 +1,4 @@
-use Rattle.std.proofs.Common.{◌≡◌, ℕ, List}
+use Rattle.std.proofs.Common.{◌≡◌}
 use Rattle.std.proofs.lemmas.Result.{IfOk-weaker}
 use Rattle.gw_model_jobs.specs.Running.{AreStillAt}
 use Rattle.gw_model_jobs.proofs.Lasting.{still_on}
