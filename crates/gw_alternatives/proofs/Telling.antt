@@ -1,5 +1,6 @@
 -- What is told of alternatives, or that something is refused.
-use Rattle.std.proofs.Common.{◌≡◌, ℕ, List, ◌∙◌, Result, Ok, Err, inl, inr, ap}
+use Rattle.std.proofs.Common.{◌≡◌, ℕ, List, ◌∙◌, Result, Ok, Err, inl, inr, refl, ap, sym}
+use Rattle.std.proofs.lemmas.List.{append_assoc}
 use Rattle.std.specs.Prelude.{◌++◌, codes, IfOk, OnOk, MatchResult, Vec}
 use Rattle.std.specs.Global.{Global}
 use Rattle.gw_answers.specs.Status.{refused}
@@ -7,12 +8,13 @@ use Rattle.gw_answers.specs.declared.answer.Answer.{Answer}
 use Rattle.gw_comparison.specs.declared.point.Point.{Point}
 use Rattle.gw_figures.specs.Labels.{labels}
 use Rattle.gw_study.specs.Study.{AreResultsOf, IsResultsText}
+use Rattle.gw_study.specs.Table.{Adds, IsTable}
 use Rattle.gw_study.specs.declared.request.StudyRequest.{StudyRequest}
 use Rattle.gw_study.specs.declared.telling.Results.{Results}
 use Rattle.gw_alternatives.specs.declared.alternative.Alternative.{Alternative}
 use Rattle.gw_alternatives.specs.declared.alternatives.NoAlternative.{NoAlternative}
 use Rattle.gw_alternatives.specs.declared.form.Form.{Form}
-use Rattle.gw_alternatives.specs.Told.{AddsTable, AddsTableIn, head_line, IsAnswerAbout, IsPointBy, IsToldOr, TellsAlternative}
+use Rattle.gw_alternatives.specs.Told.{AddsTable, AddsTableIn, head_line, IsAnswerAbout, IsPointBy, IsPointTable, IsToldOr, TellsAlternative}
 
 pub told_or : {E : Type 0} (Are : List Alternative → Type 0) (form : Form) (request : StudyRequest) (found : Result (Vec Alternative Global) NoAlternative) (a : Result Answer E)
     → IfOk found (λ all. Are all.items)
@@ -29,6 +31,16 @@ pub table_of : {E : Type 0} (r : Result (Unit {0}) E) (request : StudyRequest) (
     → OnOk r (new ≡ head ++ text ++ codes "\n") → OnOk r (AddsTable request a results old new)
 table_of (Ok u) request a results old head new text is told h = record { text = text; told = told; whole = h ∙ ap (λ x. x ++ text ++ codes "\n") is }
 table_of (Err e) request a results old head new text is told h = tt
+
+-- a head and the table of runs are the table of a point
+pub point_table_of : {E : Type 0} (r : Result (Unit {0}) E) (name : List ℕ) (results : Results) (request : StudyRequest) (count : ℕ) (old head new table : List ℕ)
+    → head ≡ old ++ head_line name → IsTable (labels results.figures.items) results.runs.items request count table
+    → OnOk r (new ≡ head ++ table ++ codes "\n") → OnOk r (Adds (IsPointTable name results request count) old new)
+point_table_of (Ok u) name results request count old head new table is told h =
+    (head_line name ++ table ++ codes "\n", (table, told, refl),
+    h ∙ ap (λ x. x ++ table ++ codes "\n") is ∙ append_assoc (old ++ head_line name) table (codes "\n")
+    ∙ append_assoc old (head_line name) (table ++ codes "\n") ∙ ap (λ x. old ++ x) (sym (append_assoc (head_line name) table (codes "\n"))))
+point_table_of (Err e) name results request count old head new table is told h = tt
 
 -- the runs of an alternative, its table and its point are what is told of it
 pub told_by : {E : Type 0} (r : Result Point E) (form : Form) (request : StudyRequest) (a : Alternative) (results : Results) (old new : List ℕ)

@@ -9,7 +9,7 @@ use Rattle.gw_comparison.specs.Differences.{AddsDifferences}
 use Rattle.gw_comparison.specs.Sheets.{AddsEach, AddsSheet}
 use Rattle.gw_comparison.specs.declared.point.Column.{Column}
 use Rattle.gw_comparison.specs.declared.point.Point.{Point}
-use Rattle.gw_study.specs.Table.{is_ended_so}
+use Rattle.gw_study.specs.Table.{is_ended_so, IsTable}
 use Rattle.gw_study.specs.Study.{AreResultsOf, IsResultsText}
 use Rattle.gw_study.specs.declared.request.StudyRequest.{StudyRequest}
 use Rattle.gw_study.specs.declared.telling.Results.{Results}
@@ -62,6 +62,12 @@ pub record AddsTable (request : StudyRequest) (a : Alternative) (results : Resul
   pub text : List ℕ
   pub told : IsResultsText (labels results.figures.items) results.runs.items request a.spec text
   pub whole : new ≡ (old ++ head_line a.name.items) ++ text ++ codes "\n"
+
+-- the head of a point of a name, the table of its runs alone, and an empty line
+abbrev pub IsPointTable : List ℕ → Results → StudyRequest → ℕ → List ℕ → Type 0
+IsPointTable name results request count text =
+    (table : List ℕ) × IsTable (labels results.figures.items) results.runs.items request count table
+    × (text ≡ head_line name ++ table ++ codes "\n")
 
 -- that, where tables are asked for
 abbrev pub AddsTableIn : Form → StudyRequest → Alternative → Results → List ℕ → List ℕ → Type 0

@@ -7,10 +7,10 @@ use gw_scan::Spec;
 
 /// An alternative: what it is called, and its job.
 #[derive(Drop)]
-pub(crate) struct Alternative {
+pub struct Alternative {
     /// What it is called, as `NURSES=2`.
-    pub(crate) name: Vec<u8>,
+    pub name: Vec<u8>,
     /// Its job, with the model's own seeds.
-    pub(crate) spec: Spec,
+    pub spec: Spec,
     ghost budget: { spec.budget ≡ BUDGET },
 }

@@ -1,6 +1,6 @@
 //! The jobs of alternatives: each is there, or the first that is refused, before any run.
 
-ghost use Rattle.std.specs.Prelude.{◌≡◌, ◌<◌, ◌≤◌, ◌++◌, ◌∷◌, [], map, IfOk, OnOk};
+ghost use Rattle.std.specs.Prelude.{◌≡◌, ◌<◌, ◌≤◌, ◌++◌, ◌∷◌, [], length, map, IfOk, OnOk};
 ghost use Rattle.gw_points.specs.Points.{count_of, name_of as point_name};
 ghost use Rattle.gw_alternatives.specs.Alternatives.{IsAlternative, IsPointAt, ArePoints, ArePointsOf, AreModels};
 
@@ -15,7 +15,7 @@ use std::alloc::Global;
 
 /// Why there are no alternatives.
 #[derive(Drop)]
-pub(crate) enum NoAlternative {
+pub enum NoAlternative {
     /// A parameter or a text is refused: the text of the refusal.
     Refused(Vec<u8>),
     /// Memory ran out.
@@ -130,13 +130,15 @@ fn points_in(
 }
 
 /// The points of a text that words as `NURSES=2,3` ask for.
-pub(crate) fn points_by_words(
+pub fn points_by_words(
     alloc: Global,
     text: &[u8],
     words: &[&[u8]],
     count: u64,
 ) -> Result<Vec<Alternative>, NoAlternative>
-    ensures { IfOk result (λ all. ArePoints text.now (map (λ w. w.now) words.now) count all.items) }
+    ensures points { IfOk result
+        (λ all. ArePoints text.now (map (λ w. w.now) words.now) count all.items) }
+    ensures few { IfOk result (λ all. length all.items ≤ 64) }
 {
     match points_of(alloc, words) {
         Ok(points) => points_in(alloc, text, &points, count),

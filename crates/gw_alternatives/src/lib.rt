@@ -7,5 +7,8 @@ mod answering;
 mod form;
 mod told;
 
+pub use alternative::Alternative;
+pub use alternatives::{NoAlternative, points_by_words};
 pub use answering::{compare, study_points};
 pub use form::Form;
+pub use told::{point_of, put_point_table};

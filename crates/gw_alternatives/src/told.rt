@@ -1,9 +1,10 @@
 //! What is told of the runs of alternatives.
 
-ghost use Rattle.std.specs.Prelude.{◌≡◌, ◌≤◌, ◌++◌, codes, length, map, IfOk, OnOk, vec_len};
+ghost use Rattle.std.specs.Prelude.{◌≡◌, ◌≤◌, ◌^◌, ◌++◌, codes, length, map, IfOk, OnOk, vec_len};
 ghost use Rattle.gw_figures.specs.Labels.{label_of, labels};
 ghost use Rattle.gw_comparison.specs.Sheets.{AddsEach};
 ghost use Rattle.gw_study.specs.Requests.{MayBeStudied};
+ghost use Rattle.gw_study.specs.Table.{Adds};
 ghost use Rattle.gw_alternatives.specs.Told as model;
 ghost use Rattle.gw_alternatives.specs.Told.{AddsAllDifferences, AddsBlock, AddsRest, AddsTable, AreTold, IsPointBy, TellsAlternative, TellsAlternatives, series_of};
 
@@ -13,7 +14,7 @@ use gw_comparison::{Column, Point, put_differences, put_picture, put_sheet};
 use gw_figures::{Figure, Run};
 use gw_object::Memory;
 use gw_scan::End;
-use gw_study::{Results, StudyRequest, results, results_text};
+use gw_study::{Results, StudyRequest, results, results_text, table};
 use std::alloc::Global;
 use std::io::Eprint;
 use std::sync::Wait;
@@ -80,8 +81,22 @@ fn columns_of(
     Ok(columns)
 }
 
+/// The point of a name, by what its runs say, of which there are at most 512. Blocks, switches and user chains are told where all
+/// figures are.
+pub fn point_of(alloc: Global, point: &[u8], results: &Results, all: bool) -> Result<Point, Memory>
+    requires { vec_len results.now.runs ≤ 512 }
+    ensures name { IfOk result (λ made. made.name.items ≡ point.now) }
+    ensures columns { IfOk result (λ made. map series_of made.columns.items
+        ≡ model.series_from all results.now.runs.items 0 (labels results.now.figures.items)) }
+{
+    let mut name = Vec::new(alloc);
+    name.extend_from_slice(point)?;
+    let columns = columns_of(alloc, &results.figures, &results.runs, all)?;
+    Ok(Point { name, columns })
+}
+
 /// The point of an alternative, by what its runs say.
-fn point_of(
+fn point_by(
     alloc: Global,
     alternative: &Alternative,
     results: &Results,
@@ -90,10 +105,7 @@ fn point_of(
     requires { vec_len results.now.runs ≤ 512 }
     ensures { IfOk result (IsPointBy request.now alternative.now results.now) }
 {
-    let mut name = Vec::new(alloc);
-    name.extend_from_slice(&alternative.name)?;
-    let columns = columns_of(alloc, &results.figures, &results.runs, request.all)?;
-    Ok(Point { name, columns })
+    point_of(alloc, &alternative.name, results, request.all)
 }
 
 /// The line above the table of an alternative.
@@ -112,6 +124,25 @@ fn put_ended(out: &mut Vec<u8>, text: &[u8]) -> Result<(), Memory>
 {
     out.extend_from_slice(text)?;
     out.extend_from_slice(b"\n")
+}
+
+/// The head and the table of a point of a name, whose runs, at most 512, have this count, and an empty line.
+pub fn put_point_table(
+    alloc: Global,
+    out: &mut Vec<u8>,
+    point: &[u8],
+    results: &Results,
+    request: &StudyRequest,
+    count: u64,
+) -> Result<(), Memory>
+    requires runs { vec_len results.now.runs ≤ 512 }
+    requires count { count ≤ 2 ^ 40 }
+    ensures { OnOk result (Adds (model.IsPointTable point.now results.now request.now count)
+        out.old.items out.new.items) }
+{
+    put_head(out, point)?;
+    let table = table(alloc, results, request, count)?;
+    put_ended(out, &table)
 }
 
 /// The head of an alternative, what is told of its results, and an empty line.
@@ -165,7 +196,7 @@ fn point_told<W: Threads + Wait + Sync + Eprint>(
 {
     let results = results(rt, alloc, &alternative.spec, request)?;
     put_table_in(alloc, out, alternative, &results, form, request)?;
-    point_of(alloc, alternative, &results, request)
+    point_by(alloc, alternative, &results, request)
 }
 
 /// Runs all alternatives, one after the other.

@@ -1,5 +1,5 @@
 -- What a study of a model text tells.
-use Rattle.std.specs.Prelude.{◌≡◌, ◌⊎◌, ◌<◌, ◌^◌, ℕ, List, [], ◌++◌, length}
+use Rattle.std.specs.Prelude.{◌≡◌, ◌⊎◌, ◌<◌, ◌+◌, ◌^◌, ℕ, List, [], ◌++◌, length}
 use Rattle.gw_object.specs.declared.fault.Fault.{Fault}
 use Rattle.gw_step.specs.Job.{Job}
 use Rattle.gw_scan.specs.Making.{job_from}
@@ -33,7 +33,13 @@ pub record IsResultsText (figures : List Label) (runs : List Run) (request : Stu
   pub told : IsTable figures runs request j.count table
   pub whole : text ≡ table ++ streams_text j.parts runs
 
--- the same of the runs that are asked for
+-- the runs of a job's object from one number to another, but not that one, with the figures of its model
+pub record AreResultsBetween (j : Job) (from first end : ℕ) (results : Results) : Type 0 where
+  pub figures : labels results.figures.items ≡ labels_of j.parts
+  pub number : first + length results.runs.items ≡ end
+  pub runs : AreRunsFrom j from first results.runs.items
+
+-- what is told of the runs that are asked for of a job's object
 abbrev pub IsTold : Job → StudyRequest → List ℕ → Type 0
 IsTold j request text =
     (runs : List Run) × (length runs ≡ request.runs)

@@ -190,7 +190,35 @@ fn workers_of<T: Threads>(rt: &T, workers: u32) -> u32 {
     }
 }
 
-/// The runs that a study is asked for, in order. A line on standard error tells how far they are.
+/// The runs from one number to another, but not that one, in order, by at most so many workers; 0 means as many as the machine has
+/// processors. A line on standard error tells how far they are.
+pub(crate) fn runs_in_order<T: Threads + Sync + Eprint>(
+    rt: &T,
+    alloc: Global,
+    setup: &Setup<'_>,
+    workers: u32,
+    first: u32,
+    end: u32,
+) -> Result<Vec<Run>, Memory>
+    requires numbers { (first ≤ end) × (end ≤ 512) }
+    requires setup { IsSetUp setup.now }
+    ensures { AreRunsOf setup.now first end result }
+{
+    let workers = workers_of(rt, workers);
+    let count = end - first;
+    let mut runs = Vec::new(alloc);
+    let mut made = 0;
+    while made < count {
+        let next = count.min(made + TOGETHER);
+        let mut more = runs_by(rt, alloc, setup, workers, first + made, first + next)?;
+        runs.append(&mut more)?;
+        made = next;
+        let _ = eprintln!(rt; "{made} of {count} runs");
+    }
+    Ok(runs)
+}
+
+/// The runs that a study is asked for, in order.
 pub(crate) fn runs_of<T: Threads + Sync + Eprint>(
     rt: &T,
     alloc: Global,
@@ -201,16 +229,13 @@ pub(crate) fn runs_of<T: Threads + Sync + Eprint>(
     requires setup { IsSetUp setup.now }
     ensures { AreRunsOf setup.now (first_of request) (first_of request + request.runs) result }
 {
-    let workers = workers_of(rt, request.workers);
     let first = first_run(request);
-    let mut runs = Vec::new(alloc);
-    let mut made = 0;
-    while made < request.runs {
-        let next = request.runs.min(made + TOGETHER);
-        let mut more = runs_by(rt, alloc, setup, workers, first + made, first + next)?;
-        runs.append(&mut more)?;
-        made = next;
-        let _ = eprintln!(rt; "{made} of {all} runs", all = request.runs);
-    }
-    Ok(runs)
+    runs_in_order(
+        rt,
+        alloc,
+        setup,
+        request.workers,
+        first,
+        first + request.runs,
+    )
 }

@@ -5,10 +5,10 @@ ghost use Rattle.gw_model_jobs.specs.ModelJobs.{IsJobOf, Finds};
 ghost use Rattle.gw_answers.specs.Status.{ended};
 ghost use Rattle.gw_figures.specs.Labels.{labels};
 ghost use Rattle.gw_study.specs.Requests.{MayBeStudied};
-ghost use Rattle.gw_study.specs.Study.{counted as counted_of, AreResultsOf, IsResultsText, IsCountedJob, IsCountRefusal, IsStudyRefusal, IsStudy, IsTold};
+ghost use Rattle.gw_study.specs.Study.{counted as counted_of, AreResultsBetween, AreResultsOf, IsResultsText, IsCountedJob, IsCountRefusal, IsStudyRefusal, IsStudy, IsTold};
 
 use crate::request::StudyRequest;
-use crate::runs::{Setup, runs_of};
+use crate::runs::{Setup, runs_in_order, runs_of};
 use crate::streams::put_streams;
 use crate::telling::{Results, table};
 use gw_answers::status::ENDED;
@@ -90,6 +90,32 @@ pub fn results_text(
     let mut text = table(alloc, results, request, spec.count())?;
     put_streams(&mut text, spec.verified().object().parts(), &results.runs)?;
     Ok(text)
+}
+
+/// The runs of a job's object, whose budget is that of a run, from one number to another, but not that one, by at most so many
+/// workers, with the figures of its model; 0 workers mean as many as the machine has processors. They are told from where so many
+/// terminations are counted.
+pub fn results_between<T: Threads + Sync + Eprint>(
+    rt: &T,
+    alloc: Global,
+    spec: &Spec,
+    from: u64,
+    workers: u32,
+    first: u32,
+    end: u32,
+) -> Result<Results, Memory>
+    requires numbers { (first ≤ end) × (end ≤ 512) }
+    requires budget { spec.now.budget ≡ BUDGET }
+    ensures { IfOk result (AreResultsBetween spec.now from first end) }
+{
+    let figures = figures(alloc, spec.verified().object().parts())?;
+    let setup = Setup {
+        spec,
+        figures: &figures,
+        from,
+    };
+    let runs = runs_in_order(rt, alloc, &setup, workers, first, end)?;
+    Ok(Results { figures, runs })
 }
 
 /// What is told of the runs of a job's object.
