@@ -1,0 +1,10 @@
+-- the names so far, and those that are left, are all
+use Rattle.std.proofs.Common.{◌≡◌, ◌++◌, drop}
+use Rattle.gw_figures.specs.Labels.{labels}
+use Rattle.gw_rows.specs.Names.{trend_names}
+use Rattle.gw_rows.specs.Rows.{texts}
+use Rattle.gw_rows.proofs.header.put_trends.Given as goal
+
+abbrev pub invariant-loop-i : goal.invariant-loop-i
+invariant-loop-i l =
+    texts l.fields.items ++ trend_names (labels (drop l.i l.figures)) ≡ texts l.initial.fields.items ++ trend_names (labels l.figures)
