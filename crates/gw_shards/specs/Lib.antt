@@ -1,0 +1,4 @@
+pub mod Rows
+pub mod Shares
+pub mod Objects
+pub mod Laws

@@ -1,0 +1,73 @@
+-- Rows of runs of a model's points.
+use Rattle.std.specs.Prelude.{◌≡◌, ◌⊎◌, ℕ, ◌+◌, List, [], ◌∷◌, ◌++◌, length, if◌then◌else◌}
+use Rattle.std.specs.Str.{bytes_eq}
+use Rattle.hex.specs.Hex.{encode_lower}
+use Rattle.sha2.specs.Sha256.{sha256}
+use Rattle.gw_answers.specs.Status.{ended, refused}
+use Rattle.gw_figures.specs.Labels.{labels_of}
+use Rattle.gw_figures.specs.declared.run.Run.{Run}
+use Rattle.gw_study.specs.Runs.{AreRunsFrom}
+use Rattle.gw_alternatives.specs.Alternatives.{ArePoints}
+use Rattle.gw_alternatives.specs.declared.alternative.Alternative.{Alternative}
+use Rattle.gw_rows.specs.Names.{header}
+use Rattle.gw_rows.specs.Refusals.{refusal_rows}
+use Rattle.gw_rows.specs.Rows.{Source, rows_from}
+use Rattle.gw_shards.specs.declared.request.RowsRequest.{RowsRequest}
+use Rattle.gw_shards.specs.declared.rows.Common as declared_rows
+
+-- the digest of a model text: its SHA-256 in hexadecimal digits
+abbrev pub digest : List ℕ → List ℕ
+digest text = encode_lower (sha256 text)
+
+-- what rows have in common: the digest of the model, how many there are in all or 0, and where their window begins
+pub record Common : Type 0 where
+  pub model : List ℕ
+  pub rows : ℕ
+  pub from : ℕ
+
+-- of what the runs of a point are some
+abbrev pub source : Common → Alternative → Source
+source common point =
+    record { model = common.model; rows = common.rows; point = point.name.items; count = point.spec.count; from = common.from }
+
+-- what the code has of it
+abbrev pub view : declared_rows.Common → Common
+view common = record { model = common.model.now; rows = common.rows; from = common.from }
+
+-- the rows of the lone runs of a point from one number to another, but not that one, in order
+pub record AreRowsOf (common : Common) (point : Alternative) (first end : ℕ) (text : List ℕ) : Type 0 where
+  pub runs : List Run
+  pub number : first + length runs ≡ end
+  pub lone : AreRunsFrom point.spec common.from first runs
+  pub text_is : text ≡ rows_from (labels_of point.spec.parts) (source common point) first runs
+
+-- the line before rows of a point
+abbrev pub header_of : Alternative → List ℕ
+header_of point = header (labels_of point.spec.parts)
+
+-- the same where it isn't the line before the last rows
+abbrev pub header_unless : List ℕ → Alternative → List ℕ
+header_unless last point = if bytes_eq (header_of point) last then [] else header_of point
+
+-- the rows of these runs of a point are added, with the line before them where it isn't the last such line
+abbrev pub AddsRowsOf : Common → ℕ → ℕ → List ℕ → Alternative → List ℕ → List ℕ → Type 0
+AddsRowsOf common first end last point old new =
+    (rows : List ℕ) × AreRowsOf common point first end rows × (new ≡ (old ++ header_unless last point) ++ rows)
+
+-- the same of each point, one behind the other
+unfoldable pub AddsRowsOfPoints : Common → ℕ → ℕ → List ℕ → List Alternative → List ℕ → List ℕ → Type 0
+AddsRowsOfPoints common first end last [] old new = new ≡ old
+AddsRowsOfPoints common first end last (point ∷ points) old new =
+    (middle : List ℕ) × AddsRowsOf common first end last point old middle
+    × AddsRowsOfPoints common first end (header_of point) points middle new
+
+-- what rows of a request have in common
+abbrev pub common_of : List ℕ → RowsRequest → Common
+common_of text request = record { model = digest text; rows = 0; from = request.from }
+
+-- what is answered: the rows of all points that words ask for, or a refusal as a row
+abbrev pub AreRows : List ℕ → List (List ℕ) → RowsRequest → List ℕ → ℕ → Type 0
+AreRows text words request out status =
+    ((status ≡ ended) × ((points : List Alternative) × ArePoints text words request.count points
+    × AddsRowsOfPoints (common_of text request) request.first request.end [] points [] out))
+    ⊎ ((status ≡ refused) × ((why : List ℕ) × (out ≡ refusal_rows (digest text) why)))

@@ -1,0 +1,72 @@
+-- The rows of a share of a model's experiment.
+use Rattle.std.specs.Prelude.{◌≡◌, ◌⊎◌, ℕ, ◌+◌, ◌*◌, ◌==◌, nat_lt, List, [], ◌∷◌, length, map, MatchBool, if◌then◌else◌}
+use Rattle.gw_answers.specs.Status.{ended, refused}
+use Rattle.gw_experiment.specs.Shares.{share_of, run_at}
+use Rattle.gw_experiment.specs.declared.experiment.Experiment.{Experiment}
+use Rattle.gw_experiment.specs.declared.shares.Share.{Share}
+use Rattle.gw_alternatives.specs.Alternatives.{ArePoints}
+use Rattle.gw_alternatives.specs.declared.alternative.Alternative.{Alternative}
+use Rattle.gw_rows.specs.Refusals.{refusal_rows}
+use Rattle.gw_shards.specs.Rows.{Common, digest, header_of, AddsRowsOf}
+
+-- how many jobs there are: a run of a point each
+abbrev pub jobs_of : List Alternative → Experiment → ℕ
+jobs_of points experiment = length points * experiment.runs
+
+-- what rows of an experiment have in common, by the digest of its model
+abbrev pub common_by : List ℕ → List Alternative → Experiment → Common
+common_by model points experiment = record { model = model; rows = jobs_of points experiment; from = experiment.from }
+
+-- the rows of a point's runs from one number to another, but not that one, are added, with the line before them where it isn't the
+-- last such line; nothing where there are no runs
+abbrev pub AddsPart : Common → ℕ → ℕ → List ℕ → Alternative → List ℕ → List ℕ → Type 0
+AddsPart common first end last point old new =
+    MatchBool (nat_lt first end) (AddsRowsOf common first end last point old new) (new ≡ old)
+
+-- the last line before rows behind these
+abbrev pub last_header : ℕ → ℕ → List ℕ → Alternative → List ℕ
+last_header first end last point = if nat_lt first end then header_of point else last
+
+-- the rows of the jobs that a share has of points that follow one another, from one on, are added
+unfoldable pub AddsParts : Common → Share → ℕ → ℕ → List ℕ → List Alternative → List ℕ → List ℕ → Type 0
+AddsParts common share runs number last [] old new = new ≡ old
+AddsParts common share runs number last (point ∷ points) old new =
+    (middle : List ℕ)
+    × AddsPart common (run_at share.first number runs) (run_at share.end number runs) last point old middle
+    × AddsParts common share runs (number + 1)
+    (last_header (run_at share.first number runs) (run_at share.end number runs) last point) points middle new
+
+-- where a share has no job, the line before rows of the first point comes alone
+abbrev pub lone_header : Share → List Alternative → List ℕ
+lone_header share [] = []
+lone_header share (point ∷ points) = if share.first == share.end then header_of point else []
+
+-- the rows of a share of these points
+abbrev pub AreShareRows : Common → Share → ℕ → List Alternative → List ℕ → Type 0
+AreShareRows common share runs points text =
+    AddsParts common share runs 0 (lone_header share points) points (lone_header share points) text
+
+-- the words as `NURSES=2,3` of an experiment
+abbrev pub words_of : Experiment → List (List ℕ)
+words_of experiment = map (λ w. w.items) experiment.parameters.items
+
+-- the rows of a share of an experiment, by its number, of so many
+pub record IsShareOf (text : List ℕ) (experiment : Experiment) (number shares : ℕ) (out : List ℕ) : Type 0 where
+  pub points : List Alternative
+  pub asked : ArePoints text (words_of experiment) experiment.count points
+  pub rows : AreShareRows (common_by (digest text) points experiment) (share_of (jobs_of points experiment) number shares) experiment.runs points out
+
+-- a refusal as a row
+abbrev pub IsRefusedRow : List ℕ → List ℕ → ℕ → Type 0
+IsRefusedRow text out status = (status ≡ refused) × ((why : List ℕ) × (out ≡ refusal_rows (digest text) why))
+
+-- the rows of a share of an experiment, or a refusal
+abbrev pub IsShareOr : List ℕ → Experiment → ℕ → ℕ → List ℕ → ℕ → Type 0
+IsShareOr text experiment number shares out status =
+    ((status ≡ ended) × IsShareOf text experiment number shares out) ⊎ IsRefusedRow text out status
+
+-- what is answered: those of an experiment, or a refusal
+abbrev pub IsShareAnswer : List ℕ → ℕ → ℕ → List ℕ → ℕ → Type 0
+IsShareAnswer text number shares out status =
+    ((experiment : Experiment) × IsShareOr text experiment number shares out status)
+    ⊎ IsRefusedRow text out status
