@@ -1,0 +1,121 @@
+//! Why rows are refused.
+
+use gw_object::Memory;
+use itoa::Buffer;
+use std::alloc::Global;
+
+/// The code of the refusal of a row (docs/refusals.md).
+pub const ROW: u16 = 84;
+
+/// Why a line is refused.
+#[derive(Clone, Copy, Debug, PartialEq, Eq)]
+pub enum RowFault {
+    /// It has no line feed at its end: it was cut off.
+    Cut,
+    /// It is longer than any row.
+    Long,
+    /// It isn't a row with the fields that the header names, as `planner runs` writes it.
+    Form,
+    /// No line is a header.
+    NoHeader,
+    /// It is a header of other figures than the first.
+    OtherFigures,
+    /// It is of another model.
+    OtherModel,
+    /// It has another count, another window, or another number of rows in all.
+    OtherStudy,
+    /// It has other names before its numbers.
+    OtherNames,
+    /// Another line has the same run of the same point with other numbers.
+    Unlike,
+    /// This run isn't one of the study.
+    Surplus(u32),
+    /// This run isn't there.
+    Missing(u32),
+    /// So many rows are there, of so many that there are by what they say.
+    Few(u64, u64),
+}
+
+/// Why a line isn't taken, or all lines aren't.
+#[derive(Debug, Drop)]
+pub enum NoRow {
+    /// A line is refused, by its number, from 1.
+    Fault(u64, RowFault),
+    /// Memory ran out.
+    Memory,
+}
+
+/// Why a line is refused, in words, where they are the same each time.
+fn reason_of(fault: RowFault) -> &'static str {
+    match fault {
+        RowFault::Cut => "the line is cut off: no line feed ends it",
+        RowFault::Long => "the line is longer than a row can be",
+        RowFault::Form => "this isn't a row with the fields that the header names",
+        RowFault::NoHeader => "no line names the fields of this row",
+        RowFault::OtherFigures => "the header names other figures than the first one",
+        RowFault::OtherModel => "the row is of another model than the first one",
+        RowFault::OtherStudy =>
+            "the row has another count, window or number of rows than the first one",
+        RowFault::OtherNames => "the row has other names before its numbers than the first one",
+        RowFault::Unlike => "another row has this run with other numbers",
+        RowFault::Surplus(_) => " isn't one of the study",
+        RowFault::Missing(_) => " is missing",
+        RowFault::Few(_, _) => " rows are there",
+    }
+}
+
+/// A text behind others.
+fn put(out: &mut Vec<u8>, text: &str) -> Result<(), Memory> {
+    out.extend_from_slice(text.as_bytes())
+}
+
+/// A text, and a number behind it.
+fn put_number(out: &mut Vec<u8>, text: &str, number: u64) -> Result<(), Memory> {
+    let mut buffer = Buffer::new();
+    put(out, text)?;
+    put(out, buffer.format(number))
+}
+
+/// The code and its name, and the line.
+fn put_head(out: &mut Vec<u8>, line: u64) -> Result<(), Memory> {
+    put_number(out, "refused 84 Row at line ", line)?;
+    put(out, "\nwrong: ")
+}
+
+/// A run, and of which point it is one, where that has a name.
+fn put_run(out: &mut Vec<u8>, run: u32, point: &[u8]) -> Result<(), Memory> {
+    put_number(out, "run ", u64::from(run))?;
+    if point.is_empty() {
+        return Ok(());
+    }
+    put(out, " of ")?;
+    out.extend_from_slice(point)
+}
+
+/// What is wrong, before the words of the reason.
+fn put_subject(out: &mut Vec<u8>, point: &[u8], fault: RowFault) -> Result<(), Memory> {
+    match fault {
+        RowFault::Surplus(run) | RowFault::Missing(run) => put_run(out, run, point),
+        RowFault::Few(there, all) => {
+            put_number(out, "", there)?;
+            put_number(out, " of ", all)
+        }
+        _ => Ok(()),
+    }
+}
+
+/// The refusal of a line by its number, from 1, as it is printed: its code and name, the number, and why, with the point of a run that
+/// isn't there or shouldn't be. What misses is told at the line behind the last.
+pub fn refusal_of(
+    alloc: Global,
+    line: u64,
+    point: &[u8],
+    fault: RowFault,
+) -> Result<Vec<u8>, Memory> {
+    let mut text = Vec::new(alloc);
+    put_head(&mut text, line)?;
+    put_subject(&mut text, point, fault)?;
+    put(&mut text, reason_of(fault))?;
+    put(&mut text, "\n")?;
+    Ok(text)
+}

@@ -1,0 +1,82 @@
+//! Lines out of the pieces in which an input is read.
+
+ghost use Rattle.std.specs.Prelude.{◌≡◌};
+
+use crate::fault::{NoRow, RowFault};
+use crate::rows::Rows;
+use gw_object::Memory;
+use std::alloc::Global;
+
+/// The most bytes of a line.
+const LONGEST: usize = 1 << 24;
+
+/// Rows, and the line that isn't whole yet.
+#[derive(Drop)]
+pub struct Pieces {
+    rows: Rows,
+    /// What there is of the next line.
+    rest: Vec<u8>,
+    /// How many lines were whole.
+    lines: u64,
+}
+
+impl Pieces {
+    /// Nothing was read.
+    pub fn new(alloc: Global) -> Pieces {
+        Pieces {
+            rows: Rows::new(alloc),
+            rest: Vec::new(alloc),
+            lines: 0,
+        }
+    }
+
+    /// The number of the line that isn't whole yet, from 1.
+    pub fn line(&self) -> u64 {
+        self.lines.saturating_add(1)
+    }
+
+    /// The rows.
+    pub fn rows(&self) -> &Rows
+        ensures { result.now ≡ self.now.rows }
+    {
+        &self.rows
+    }
+
+    /// What comes of the line that isn't whole.
+    fn put(&mut self, bytes: &[u8]) -> Result<(), NoRow> {
+        if self.rest.len().saturating_add(bytes.len()) > LONGEST {
+            return Err(NoRow::Fault(self.line(), RowFault::Long));
+        }
+        match self.rest.extend_from_slice(bytes) {
+            Ok(()) => Ok(()),
+            Err(Memory) => Err(NoRow::Memory),
+        }
+    }
+
+    /// A line that is whole.
+    fn end_line(&mut self, alloc: Global) -> Result<(), NoRow> {
+        self.rows
+            .add_line(alloc, self.lines.saturating_add(1), &self.rest)?;
+        self.rest.clear();
+        self.lines = self.lines.saturating_add(1);
+        Ok(())
+    }
+
+    /// One more piece of the input.
+    pub fn add(&mut self, alloc: Global, piece: &[u8]) -> Result<(), NoRow> {
+        let mut start = 0;
+        for i in 0..piece.len() {
+            if piece[i] == b'\n' {
+                self.put(&piece[start..i])?;
+                self.end_line(alloc)?;
+                start = i + 1;
+            }
+        }
+        self.put(&piece[start..])
+    }
+
+    /// Whether the last line is cut off.
+    pub fn is_cut(&self) -> bool {
+        !self.rest.is_empty()
+    }
+}

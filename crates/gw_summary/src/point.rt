@@ -1,0 +1,140 @@
+//! The rows of a point.
+
+ghost use Rattle.std.specs.Prelude.{◌≡◌, ◌≤◌, ◌<◌, nat_le, vec_len, slice_get, Some, IfNone, IfOk, OnOk};
+ghost use Rattle.std.specs.List.{slice_set};
+ghost use Rattle.gw_summary.specs.Adding as model;
+ghost use Rattle.gw_summary.specs.Telling.{IsWhole};
+
+use crate::fault::RowFault;
+use gw_object::Memory;
+use std::alloc::Global;
+
+/// The rows of a point.
+#[derive(Drop)]
+pub(crate) struct PointRows {
+    /// What it is called.
+    pub(crate) name: Vec<u8>,
+    /// Its numbers.
+    pub(crate) values: Vec<i64>,
+    /// The line of each run, without its line feed, as far as there are any.
+    pub(crate) lines: Vec<Option<Vec<u8>>>,
+}
+
+/// What a line does to others.
+#[derive(Clone, Copy, Debug, PartialEq, Eq)]
+pub(crate) enum Adding {
+    /// It is a run that wasn't there.
+    New,
+    /// It was there.
+    Again,
+    /// The run was there with other numbers.
+    Unlike,
+}
+
+/// Places for lines up to a number, but not that one, behind those that are there.
+fn fill(lines: &mut Vec<Option<Vec<u8>>>, end: usize) -> Result<(), Memory>
+    ensures { OnOk result (end ≤ vec_len lines.new) }
+{
+    for _ in lines.len()..end {
+        lines.push(None)?;
+    }
+    Ok(())
+}
+
+/// A line at a place.
+fn put_line(lines: &mut Vec<Option<Vec<u8>>>, place: usize, line: Vec<u8>)
+    requires { place < vec_len lines.old }
+    ensures { lines.new.items ≡ slice_set lines.old.items place (Some line) }
+{
+    lines[place] = Some(line);
+}
+
+/// A copy of a line.
+fn copy_of(alloc: Global, line: &[u8]) -> Result<Vec<u8>, Memory>
+    ensures { IfOk result (λ copy. copy.items ≡ line.now) }
+{
+    let mut copy = Vec::with_capacity(alloc, line.len())?;
+    copy.extend_from_slice(line)?;
+    Ok(copy)
+}
+
+impl PointRows {
+    /// What a line of a run does to the others.
+    fn adding(&self, number: usize, line: &[u8]) -> Adding
+        ensures { result ≡ model.adding (slice_get self.now.lines.items number) line.now }
+    {
+        match self.lines.get(number) {
+            Some(Some(known)) => {
+                if known.as_slice() == line {
+                    Adding::Again
+                } else {
+                    Adding::Unlike
+                }
+            }
+            _ => Adding::New,
+        }
+    }
+
+    /// The line of a run that wasn't there.
+    fn put(&mut self, alloc: Global, number: usize, line: &[u8]) -> Result<(), Memory>
+        requires { number < 512 }
+    {
+        let copy = copy_of(alloc, line)?;
+        fill(&mut self.lines, number + 1)?;
+        put_line(&mut self.lines, number, copy);
+        Ok(())
+    }
+
+    /// The line of a run, with those that are there; a line that is there is left alone. It answers what the line did.
+    pub(crate) fn add(&mut self, alloc: Global, number: u32, line: &[u8]) -> Result<Adding, Memory>
+        requires { number < 512 }
+        ensures { IfOk result (λ adding.
+            adding ≡ model.adding (slice_get self.old.lines.items number) line.now) }
+    {
+        let number = number as usize;
+        let adding = self.adding(number, line);
+        if adding == Adding::New {
+            self.put(alloc, number, line)?;
+        }
+        Ok(adding)
+    }
+
+    /// Whether a run has a line.
+    pub(crate) fn has(&self, number: usize) -> bool
+        ensures { result ≡ model.has (slice_get self.now.lines.items number) }
+    {
+        match self.lines.get(number) {
+            Some(Some(_)) => true,
+            _ => false,
+        }
+    }
+
+    /// Why a run is one too many, or misses, of those from one on, if it is so.
+    fn fault_at(&self, first: usize, number: usize) -> Option<RowFault>
+        requires { number < 512 }
+        ensures { IfNone result (model.has (slice_get self.now.lines.items number) ≡ nat_le first number) }
+    {
+        match (self.has(number), first <= number) {
+            (true, false) => Some(RowFault::Surplus(number as u32)),
+            (false, true) => Some(RowFault::Missing(number as u32)),
+            _ => None,
+        }
+    }
+
+    /// Why these aren't the lines of the runs from one to another, but not that one, if they aren't: a run before the first, one
+    /// that misses, or one behind the last.
+    pub(crate) fn fault_between(&self, first: usize, end: usize) -> Option<RowFault>
+        requires { end ≤ 512 }
+        ensures { IfNone result (IsWhole self.now.lines.items first end) }
+    {
+        if self.lines.len() > end {
+            return Some(RowFault::Surplus(end as u32));
+        }
+        for number in 0..end {
+            if let Some(fault) = self.fault_at(first, number) {
+                return Some(fault);
+            }
+        }
+        None
+    }
+}

@@ -1,0 +1,393 @@
+//! What rows tell.
+
+ghost use Rattle.std.specs.Prelude.{◌≡◌, ◌≤◌, ◌+◌, ◌++◌, [], Some, length, IfOk, IfNone, IfSome, OnOk, vec_len};
+ghost use Rattle.std.specs.List.{All};
+ghost use Rattle.gw_figures.specs.Labels.{labels};
+ghost use Rattle.gw_rows.specs.Reading.{IsHeaderOf};
+ghost use Rattle.gw_summary.specs.Telling as model;
+ghost use Rattle.gw_answers.specs.Status.{refused as refused_status};
+
+use crate::fault::{RowFault, refusal_of};
+use crate::pieces::Pieces;
+use crate::point::PointRows;
+use crate::rows::Rows;
+use crate::study::Study;
+use gw_alternatives::{point_of, put_point_table};
+use gw_answers::Answer;
+use gw_answers::status::{ENDED, REFUSED};
+use gw_comparison::{Point, put_differences};
+use gw_figures::{Figure, Run};
+use gw_object::Memory;
+use gw_rows::{Refused, figures_in, row_in};
+use gw_study::{Results, StudyRequest, table};
+use std::alloc::Global;
+
+/// What a summary is asked for.
+#[derive(Clone, Copy, Debug, PartialEq, Eq)]
+pub struct SummaryRequest {
+    /// Of which study of so many runs the rows have to be, from 1.
+    pub seeds: u32,
+    /// Whether all figures are told.
+    pub all: bool,
+}
+
+/// All runs have a number below this.
+const MOST_RUNS: usize = 512;
+
+/// The run behind the greatest of all points.
+fn end_of(points: &[PointRows]) -> usize
+    ensures { result ≤ 512 }
+{
+    let mut end = 0;
+    for i in 0..points.len() {
+        end = end.max(points[i].lines.len().min(MOST_RUNS));
+    }
+    end
+}
+
+/// Why rows aren't those of all runs of a study: what is wrong, and the point at which it is.
+#[derive(Clone, Copy)]
+struct Gap<'a> {
+    fault: RowFault,
+    point: &'a [u8],
+}
+
+/// Why points don't have all the runs from one to another, but not that one, and no other, if they haven't.
+fn gap_between(points: &[PointRows], first: usize, end: usize) -> Option<Gap<'_>>
+    requires { end ≤ 512 }
+    ensures { IfNone result (All (λ p. model.IsWhole p.lines.items first end) points.now) }
+{
+    for i in 0..points.len() {
+        if let Some(fault) = points[i].fault_between(first, end) {
+            return Some(Gap {
+                fault,
+                point: &points[i].name,
+            });
+        }
+    }
+    None
+}
+
+/// Why there aren't as many rows as they say themselves, if they say it and there aren't.
+fn gap_of_count<'a>(rows: &'a Rows, study: &Study) -> Option<Gap<'a>> {
+    if study.origin.rows != 0 && study.origin.rows != rows.count() {
+        Some(Gap {
+            fault: RowFault::Few(rows.count(), study.origin.rows),
+            point: &[],
+        })
+    } else {
+        None
+    }
+}
+
+/// The first run of the study of this number whose last run is before this one; none where no study of so many runs ends there.
+fn first_of(end: usize, seeds: u32) -> Option<usize>
+    ensures { IfSome result (model.IsFirstOf end seeds) }
+{
+    let seeds = seeds as usize;
+    if seeds == 0 || end % seeds != 0 {
+        return None;
+    }
+    Some(end - end / seeds)
+}
+
+/// Why rows aren't those of all runs of a study, if they aren't.
+fn gap_of<'a>(rows: &'a Rows, study: &Study, seeds: u32) -> Option<Gap<'a>>
+    ensures { IfNone result (model.AreComplete rows.now.points.items seeds) }
+{
+    let end = end_of(rows.points());
+    match first_of(end, seeds) {
+        Some(first) => match gap_between(rows.points(), first, end) {
+            Some(gap) => Some(gap),
+            None => gap_of_count(rows, study),
+        },
+        None => Some(Gap {
+            fault: RowFault::Missing(end as u32),
+            point: &[],
+        }),
+    }
+}
+
+/// The run of a line, if there is one. Each line that was taken is that of a row; another would be told as want of memory.
+fn run_of(alloc: Global, line: &Option<Vec<u8>>, figures: &[Figure]) -> Result<Option<Run>, Memory>
+    ensures { IfOk result (model.IsRunOfLine (labels figures.now) line.now) }
+{
+    match line {
+        Some(line) => match row_in(alloc, line, figures)? {
+            Some(row) => Ok(Some(row.run)),
+            None => Err(Memory),
+        },
+        None => Ok(None),
+    }
+}
+
+/// A run behind others, if there is one.
+fn push_run(runs: &mut Vec<Run>, run: Option<Run>) -> Result<(), Memory>
+    ensures added { OnOk result (runs.new.items ≡ runs.old.items ++ model.with_run run []) }
+    ensures few { OnOk result (vec_len runs.new ≤ vec_len runs.old + 1) }
+{
+    match run {
+        Some(run) => {
+            runs.push(run)?;
+            Ok(())
+        }
+        None => Ok(()),
+    }
+}
+
+/// The runs of lines, in order.
+fn runs_of(alloc: Global, lines: &[Option<Vec<u8>>], figures: &[Figure]) -> Result<Vec<Run>, Memory>
+    ensures tell { IfOk result (λ runs. model.LinesTell (labels figures.now) lines.now runs.items) }
+    ensures few { IfOk result (λ runs. length runs.items ≤ length lines.now) }
+{
+    let mut runs = Vec::new(alloc);
+    for i in 0..lines.len() {
+        let run = run_of(alloc, &lines[i], figures)?;
+        push_run(&mut runs, run)?;
+    }
+    Ok(runs)
+}
+
+/// The figures of rows.
+fn figures_of(alloc: Global, rows: &Rows) -> Result<Vec<Figure>, Memory>
+    ensures { IfOk result (λ figures. IsHeaderOf rows.now.header.items figures.items) }
+{
+    match figures_in(alloc, rows.header())? {
+        Some(figures) => Ok(figures),
+        None => Err(Memory),
+    }
+}
+
+/// The figures and runs of a point.
+fn results_of(alloc: Global, rows: &Rows, point: &PointRows) -> Result<Results, Memory>
+    requires { vec_len point.now.lines ≤ 512 }
+    ensures results { IfOk result (model.AreResultsOf rows.now point.now) }
+    ensures few { IfOk result (λ results. vec_len results.runs ≤ 512) }
+{
+    let figures = figures_of(alloc, rows)?;
+    let runs = runs_of(alloc, &point.lines, &figures)?;
+    Ok(Results { figures, runs })
+}
+
+/// What is asked for, as a study has it.
+fn study_request(study: &Study, request: SummaryRequest, runs: u32) -> StudyRequest
+    ensures { result ≡ model.study_request study.now request runs }
+{
+    StudyRequest {
+        runs,
+        count: study.origin.count,
+        from: study.origin.from,
+        seeds: request.seeds,
+        workers: 0,
+        all: request.all,
+    }
+}
+
+/// The table of a point, and the point, by its name.
+fn point_told(
+    alloc: Global,
+    out: &mut Vec<u8>,
+    rows: &Rows,
+    study: &Study,
+    point: &PointRows,
+    request: SummaryRequest,
+) -> Result<Point, Memory>
+    requires { vec_len point.now.lines ≤ 512 }
+    ensures { OnOk result (model.AddsTable rows.now study.now request point.now out.old.items out.new.items) }
+{
+    let results = results_of(alloc, rows, point)?;
+    let asked = study_request(study, request, results.runs.len() as u32);
+    put_point_table(
+        alloc,
+        out,
+        &point.name,
+        &results,
+        &asked,
+        study.origin.count,
+    )?;
+    point_of(alloc, &point.name, &results, request.all)
+}
+
+/// A point, with its differences to the first; or as the first.
+fn put_differences_of(
+    alloc: Global,
+    behind: &mut Vec<u8>,
+    first: &mut Option<Point>,
+    point: Point,
+    all: bool,
+) -> Result<(), Memory> {
+    match first {
+        Some(first) => {
+            let put = put_differences(alloc, behind, first, &point, all);
+            drop(point);
+            put?;
+            behind.push(b'\n')?;
+        }
+        None => *first = Some(point),
+    }
+    Ok(())
+}
+
+/// The tables of points, and for what stands behind them the differences of each to the first.
+#[tactic(auto, unfolding(crate::specs::Telling::AddsTables))]
+fn put_tables(
+    alloc: Global,
+    out: &mut Vec<u8>,
+    behind: &mut Vec<u8>,
+    rows: &Rows,
+    study: &Study,
+    points: &[PointRows],
+    request: SummaryRequest,
+) -> Result<(), Memory>
+    requires { All (λ p. vec_len p.lines ≤ 512) points.now }
+    ensures { OnOk result (model.AddsTables rows.now study.now request points.now out.old.items out.new.items) }
+{
+    let mut first: Option<Point> = None;
+    for i in 0..points.len() {
+        let point = point_told(alloc, out, rows, study, &points[i], request)?;
+        put_differences_of(alloc, behind, &mut first, point, request.all)?;
+    }
+    Ok(())
+}
+
+/// The tables of points, and behind them the differences of each to the first.
+fn points_told(
+    alloc: Global,
+    rows: &Rows,
+    study: &Study,
+    request: SummaryRequest,
+) -> Result<Vec<u8>, Memory>
+    requires { All (λ p. vec_len p.lines ≤ 512) rows.now.points.items }
+    ensures { IfOk result (λ text. model.ArePointsTold rows.now study.now request text.items) }
+{
+    let mut out = Vec::new(alloc);
+    let mut behind = Vec::new(alloc);
+    put_tables(
+        alloc,
+        &mut out,
+        &mut behind,
+        rows,
+        study,
+        rows.points(),
+        request,
+    )?;
+    out.extend_from_slice(&behind)?;
+    Ok(out)
+}
+
+/// The table of the model as it is.
+fn model_told(
+    alloc: Global,
+    rows: &Rows,
+    study: &Study,
+    point: &PointRows,
+    request: SummaryRequest,
+) -> Result<Vec<u8>, Memory>
+    requires { vec_len point.now.lines ≤ 512 }
+    ensures { IfOk result (λ text. model.IsModelTold rows.now study.now request point.now text.items) }
+{
+    let results = results_of(alloc, rows, point)?;
+    let asked = study_request(study, request, results.runs.len() as u32);
+    table(alloc, &results, &asked, study.origin.count)
+}
+
+/// What all rows of a study tell.
+fn told(
+    alloc: Global,
+    rows: &Rows,
+    study: &Study,
+    request: SummaryRequest,
+) -> Result<Vec<u8>, Memory>
+    requires { All (λ p. vec_len p.lines ≤ 512) rows.now.points.items }
+    ensures { IfOk result (λ text. model.TellsRows rows.now study.now request text.items) }
+{
+    match rows.points() {
+        [point] if point.name.is_empty() => model_told(alloc, rows, study, point, request),
+        _ => points_told(alloc, rows, study, request),
+    }
+}
+
+/// The answer that refuses a line.
+fn refusal(alloc: Global, line: u64, point: &[u8], fault: RowFault) -> Result<Answer, Memory>
+    ensures { IfOk result (λ a. a.status ≡ refused_status) }
+{
+    Ok(Answer {
+        text: refusal_of(alloc, line, point, fault)?,
+        status: REFUSED,
+    })
+}
+
+/// What rows of runs tell, or why they are refused.
+fn summary_of(
+    alloc: Global,
+    rows: &Rows,
+    study: &Study,
+    line: u64,
+    request: SummaryRequest,
+) -> Result<Answer, Memory>
+    requires { rows.now.study ≡ Some study.now }
+    ensures { IfOk result (λ a. model.IsSummary rows.now request a.text.items a.status) }
+{
+    match gap_of(rows, study, request.seeds) {
+        Some(gap) => refusal(alloc, line, gap.point, gap.fault),
+        None => Ok(Answer {
+            text: told(alloc, rows, study, request)?,
+            status: ENDED,
+        }),
+    }
+}
+
+/// The refusal that a row told.
+fn refused_by(alloc: Global, refused: &Refused) -> Result<Answer, Memory>
+    ensures { IfOk result (λ a. a.status ≡ refused_status) }
+{
+    let mut text = Vec::new(alloc);
+    text.extend_from_slice(&refused.text)?;
+    Ok(Answer {
+        text,
+        status: REFUSED,
+    })
+}
+
+/// What whole lines tell, of which none waits for a header.
+fn rows_told(
+    alloc: Global,
+    rows: &Rows,
+    line: u64,
+    request: SummaryRequest,
+) -> Result<Answer, Memory>
+    ensures { IfOk result (λ a. model.IsSummary rows.now request a.text.items a.status) }
+{
+    match (rows.refused(), rows.study()) {
+        (Some(refused), _) => refused_by(alloc, refused),
+        (None, Some(study)) => summary_of(alloc, rows, study, line, request),
+        (None, None) => refusal(alloc, line, &[], RowFault::Missing(0)),
+    }
+}
+
+/// What whole lines tell.
+fn lines_told(
+    alloc: Global,
+    rows: &Rows,
+    line: u64,
+    request: SummaryRequest,
+) -> Result<Answer, Memory>
+    ensures { IfOk result (λ a. model.IsSummary rows.now request a.text.items a.status) }
+{
+    match rows.first_waiting() {
+        Some(first) => refusal(alloc, first, &[], RowFault::NoHeader),
+        None => rows_told(alloc, rows, line, request),
+    }
+}
+
+/// What the rows of an input tell that was read to its end: the table of a study of these runs, or, where they are of points, of
+/// each, in the order of their numbers, and then the differences of each to the first. A refusal that a row tells is told. Rows are
+/// refused (84 Row) that aren't those of all runs of a study, each once, and a line that is cut off.
+pub fn summary(alloc: Global, pieces: &Pieces, request: SummaryRequest) -> Result<Answer, Memory>
+    ensures { IfOk result (λ a. model.IsSummary pieces.now.rows request a.text.items a.status) }
+{
+    if pieces.is_cut() {
+        return refusal(alloc, pieces.line(), &[], RowFault::Cut);
+    }
+    lines_told(alloc, pieces.rows(), pieces.line(), request)
+}
