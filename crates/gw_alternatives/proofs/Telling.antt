@@ -36,10 +36,12 @@ table_of (Err e) request a results old head new text is told h = tt
 pub point_table_of : {E : Type 0} (r : Result (Unit {0}) E) (name : List ℕ) (results : Results) (request : StudyRequest) (count : ℕ) (old head new table : List ℕ)
     → head ≡ old ++ head_line name → IsTable (labels results.figures.items) results.runs.items request count table
     → OnOk r (new ≡ head ++ table ++ codes "\n") → OnOk r (Adds (IsPointTable name results request count) old new)
-point_table_of (Ok u) name results request count old head new table is told h =
-    (head_line name ++ table ++ codes "\n", (table, told, refl),
-    h ∙ ap (λ x. x ++ table ++ codes "\n") is ∙ append_assoc (old ++ head_line name) table (codes "\n")
-    ∙ append_assoc old (head_line name) (table ++ codes "\n") ∙ ap (λ x. old ++ x) (sym (append_assoc (head_line name) table (codes "\n"))))
+point_table_of (Ok u) name results request count old head new table is told h = (
+  head_line name ++ table ++ codes "\n",
+  (table, told, refl),
+  h ∙ ap (λ x. x ++ table ++ codes "\n") is ∙ append_assoc (old ++ head_line name) table (codes "\n")
+      ∙ append_assoc old (head_line name) (table ++ codes "\n") ∙ ap (λ x. old ++ x) (sym (append_assoc (head_line name) table (codes "\n"))),
+)
 point_table_of (Err e) name results request count old head new table is told h = tt
 
 -- the runs of an alternative, its table and its point are what is told of it

@@ -50,3 +50,9 @@ pub const ALREADY_ENDED: u16 = 68;
 
 /// A number that is to be put into a model has no place there, or too many points were asked for.
 pub const PARAMETER: u16 = 83;
+
+/// A line isn't a row of the study that the rows before are of, or all rows aren't those of a study.
+pub const ROW: u16 = 84;
+
+/// A comment line of a model that begins with `*!` asks for no experiment, or none says how many runs there are.
+pub const EXPERIMENT: u16 = 85;

@@ -10,7 +10,7 @@ use gw_rules::{flow_codes, kinds_codes, plus_codes, weights_codes};
 use gw_text::codes as text_codes;
 
 /// All codes, ascending, with their names.
-pub const NAMES: [(u16, &str); 61] = [
+pub const NAMES: [(u16, &str); 63] = [
     (object_codes::TRUNCATED, "Truncated"),
     (object_codes::MAGIC, "Magic"),
     (object_codes::VERSION, "Version"),
@@ -72,6 +72,8 @@ pub const NAMES: [(u16, &str); 61] = [
     (names_codes::STORAGE, "Storage"),
     (names_codes::LIMIT, "Limit"),
     (job_codes::PARAMETER, "Parameter"),
+    (job_codes::ROW, "Row"),
+    (job_codes::EXPERIMENT, "Experiment"),
 ];
 
 /// The name that these rows give a code.

@@ -1,14 +1,20 @@
 -- The words of the command line.
-use Rattle.std.specs.Prelude.{ℕ, ◌*◌, ◌^◌, nat_lt, nat_le, List, [], ◌∷◌, codes, ℤ, pos, Option, Some, None, is_some, is_none, option_map, Bool, not, ◌&&◌, ◌||◌, if◌then◌else◌}
+use Rattle.std.specs.Prelude.{ℕ, ◌-◌, ◌*◌, ◌^◌, nat_lt, nat_le, List, [], ◌∷◌, codes, ℤ, pos, Option, Some, None, is_some, is_none, option_map, Bool, not, ◌&&◌, ◌||◌, if◌then◌else◌}
 use Rattle.std.specs.Option.{unwrap_or}
+use Rattle.std.specs.List.{list_all}
 use Rattle.std.specs.Str.{bytes_eq}
 use Rattle.gw_num.specs.Numerals.{number_below}
 use Rattle.gw_explain.specs.Codes.{is_code}
 pub use Rattle.gw_command_line.specs.Options.{Choices, view, options_in}
+pub use Rattle.gw_command_line.specs.Rows.{RunsDemand, LoneDemand, runs_view, lone_view, first_count, behind_first, runs_of, summing_of, lone_run_of, shard_of}
+use Rattle.gw_command_line.specs.declared.rows.Shard.{Shard}
+use Rattle.gw_command_line.specs.declared.rows.Summing.{Summing}
 use Rattle.gw_command_line.specs.declared.words.Command.{Command}
 use Rattle.gw_command_line.specs.declared.words.Command.TheVariants as commands
 use Rattle.gw_command_line.specs.declared.words.Question.{Question}
-use Rattle.gw_command_line.specs.declared.words.Question.TheVariants.{Explain, List as Lists, Chart, Convert, Trace, Report}
+use Rattle.gw_command_line.specs.declared.words.Question.TheVariants.{Explain, List as Lists, Points, Convert, Trace, Report}
+use Rattle.gw_command_line.specs.declared.words.Span.{Span}
+use Rattle.gw_command_line.specs.declared.words.Chart.{Chart}
 use Rattle.gw_command_line.specs.declared.words.Study.{Study}
 
 -- WHAT IS ASKED FOR
@@ -22,11 +28,16 @@ pub record Demand : Type 0 where
 -- what a command line asks for
 pub data Act : Type 0 where
   Ask : (question : Question) → Act
+  Charts : (span : Span) (name : List ℕ) → Act
   Code : (code : ℕ) → Act
   Help : Act
   Version : Act
   Studies : (demand : Demand) → Act
   Compares : (demand : Demand) → Act
+  Rows : (demand : RunsDemand) → Act
+  Sums : (summing : Summing) → Act
+  Object : (demand : LoneDemand) → Act
+  Shares : (shard : Shard) → Act
 
 -- what the code has of it
 abbrev pub study_view : Study → Demand
@@ -34,11 +45,16 @@ study_view study = record { runs = study.runs; count = study.count; options = vi
 
 abbrev pub act_of : Command → Act
 act_of (commands.Ask question) = Ask question
+act_of (commands.Chart chart) = Charts chart.span chart.name.now
 act_of (commands.Code code) = Code code
 act_of commands.Help = Help
 act_of commands.Version = Version
 act_of (commands.Study study) = Studies (study_view study)
 act_of (commands.Compare study) = Compares (study_view study)
+act_of (commands.Runs runs) = Rows (runs_view runs)
+act_of (commands.Summary summing) = Sums summing
+act_of (commands.Object run) = Object (lone_view run)
+act_of (commands.Shard shard) = Shares shard
 
 -- NUMBERS
 
@@ -58,14 +74,30 @@ some_runs (Some runs) = if nat_le 1 runs then Some runs else None
 abbrev pub runs_in : List ℕ → Option ℕ
 runs_in word = some_runs (number_below 513 word)
 
--- COMMANDS OF ONE, TWO AND THREE WORDS
+-- SPANS
+
+-- the whole of any run: no clock is above 2^63 - 1
+abbrev pub whole : Span
+whole = record { from = 0; to = 2 ^ 63 - 1 }
+
+-- from one time to another that isn't before it
+abbrev pub span_between : Option ℕ → Option ℕ → Option Span
+span_between None to = None
+span_between (Some from) None = None
+span_between (Some from) (Some to) = if nat_le from to && nat_lt to (2 ^ 63) then Some (record { from = from; to = to }) else None
+
+abbrev pub span_of : List ℕ → List ℕ → Option Span
+span_of from to = span_between (number_below (2 ^ 64) from) (number_below (2 ^ 64) to)
+
+-- COMMANDS OF A FEW WORDS
 
 -- the command that one word names
 abbrev pub command_named : List ℕ → Option Act
 command_named name =
     if bytes_eq name (codes "explain") then Some (Ask Explain)
     else if bytes_eq name (codes "list") then Some (Ask Lists)
-    else if bytes_eq name (codes "chart") then Some (Ask Chart)
+    else if bytes_eq name (codes "chart") then Some (Charts whole [])
+    else if bytes_eq name (codes "points") then Some (Ask (Points whole))
     else if bytes_eq name (codes "convert") then Some (Ask Convert)
     else if bytes_eq name (codes "report") then Some (Ask (Report 0 0))
     else if bytes_eq name (codes "help") || bytes_eq name (codes "--help") then Some Help
@@ -83,6 +115,26 @@ explanation_in (Some code) = explanation_of code
 abbrev pub command_of_two : List ℕ → List ℕ → Option Act
 command_of_two name first = if bytes_eq name (codes "explain") then explanation_in (number_below 1000 first) else None
 
+-- `points`, and `chart` under a name
+abbrev pub points_of : Option Span → Option Act
+points_of None = None
+points_of (Some span) = Some (Ask (Points span))
+
+-- a name in a title has no control characters
+abbrev pub is_name : List ℕ → Bool
+is_name word = list_all (λ byte. nat_le 32 byte) word
+
+abbrev pub chart_named : Span → List ℕ → Option Act
+chart_named span name = if is_name name then Some (Charts span name) else None
+
+abbrev pub chart_of : Option Span → List ℕ → Option Act
+chart_of None name = None
+chart_of (Some span) name = chart_named span name
+
+-- `chart`, and a name or two times
+abbrev pub chart_of_two : List ℕ → List ℕ → Option Act
+chart_of_two first second = if bytes_eq first (codes "--name") then chart_named whole second else chart_of (span_of first second) []
+
 -- `trace`, from one time to another
 abbrev pub trace_of : Option ℤ → Option ℤ → Option Act
 trace_of None to = None
@@ -97,9 +149,16 @@ report_of (Some seed) (Some count) = Some (Ask (Report seed count))
 
 abbrev pub command_of_three : List ℕ → List ℕ → List ℕ → Option Act
 command_of_three name first second =
-    if bytes_eq name (codes "trace") then trace_of (clock_in first) (clock_in second)
+    if bytes_eq name (codes "chart") then chart_of_two first second
+    else if bytes_eq name (codes "points") then points_of (span_of first second)
+    else if bytes_eq name (codes "trace") then trace_of (clock_in first) (clock_in second)
     else if bytes_eq name (codes "report") then report_of (number_below (2 ^ 32) first) (number_below (2 ^ 64) second)
     else None
+
+-- `chart`, two times and a name
+abbrev pub command_of_five : List ℕ → List ℕ → List ℕ → List ℕ → List ℕ → Option Act
+command_of_five name first second key title =
+    if bytes_eq name (codes "chart") && bytes_eq key (codes "--name") then chart_of (span_of first second) title else None
 
 -- STUDIES
 
@@ -119,15 +178,6 @@ study_by runs count (Some o) = study_if_fit runs count o
 
 abbrev pub study_with : ℕ → ℕ → List (List ℕ) → Option Demand
 study_with runs count words = study_by runs count (options_in words)
-
--- the count that the first of these words is, if it is one
-abbrev pub first_count : List (List ℕ) → Option ℕ
-first_count [] = None
-first_count (word ∷ words) = number_below (2 ^ 64) word
-
-abbrev pub behind_first : List (List ℕ) → List (List ℕ)
-behind_first [] = []
-behind_first (word ∷ words) = words
 
 -- the count comes first, if it is there
 abbrev pub study_counted : ℕ → List (List ℕ) → Option ℕ → Option Demand
@@ -158,12 +208,21 @@ compares (Some demand) = if is_none demand.options.first then Some (Compares dem
 
 -- THE COMMAND
 
+abbrev pub command_of_more : List (List ℕ) → Option Act
+command_of_more [] = None
+command_of_more (name ∷ []) = None
+command_of_more (name ∷ first ∷ []) = None
+command_of_more (name ∷ first ∷ second ∷ []) = None
+command_of_more (name ∷ first ∷ second ∷ key ∷ []) = None
+command_of_more (name ∷ first ∷ second ∷ key ∷ title ∷ []) = command_of_five name first second key title
+command_of_more (name ∷ first ∷ second ∷ key ∷ title ∷ surplus ∷ words) = None
+
 abbrev pub command_of_few : List (List ℕ) → Option Act
 command_of_few [] = None
 command_of_few (name ∷ []) = command_named name
 command_of_few (name ∷ first ∷ []) = command_of_two name first
 command_of_few (name ∷ first ∷ second ∷ []) = command_of_three name first second
-command_of_few (name ∷ first ∷ second ∷ surplus ∷ words) = None
+command_of_few (name ∷ first ∷ second ∷ key ∷ words) = command_of_more (name ∷ first ∷ second ∷ key ∷ words)
 
 -- the command that these words name
 abbrev pub command_in : List (List ℕ) → Option Act
@@ -171,4 +230,8 @@ command_in [] = None
 command_in (name ∷ words) =
     if bytes_eq name (codes "study") then studies (study_of words)
     else if bytes_eq name (codes "compare") then compares (study_of words)
+    else if bytes_eq name (codes "runs") then option_map Rows (runs_of words)
+    else if bytes_eq name (codes "summary") then option_map Sums (summing_of words)
+    else if bytes_eq name (codes "object") then option_map Object (lone_run_of words)
+    else if bytes_eq name (codes "shard") then option_map Shares (shard_of words)
     else command_of_few (name ∷ words)

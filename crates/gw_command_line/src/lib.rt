@@ -2,7 +2,9 @@
 #![tactic(auto)]
 
 mod options;
+mod rows;
 mod words;
 
 pub use options::{Options, Waiting};
-pub use words::{Command, MOST_RUNS, MOST_WORKERS, Question, Study, command_of};
+pub use rows::{LoneRun, Runs, Shard, Summing};
+pub use words::{Chart, Command, MOST_RUNS, MOST_WORKERS, Question, Span, Study, command_of};

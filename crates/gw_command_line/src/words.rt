@@ -7,6 +7,7 @@ ghost use Rattle.gw_command_line.specs.Asking.{MayBeMade, MayBeCarriedOut};
 ghost use Rattle.gw_command_line.specs.Words as model;
 
 use crate::options::{Options, options_of};
+use crate::rows::{LoneRun, Runs, Shard, Summing, lone_run_of, runs_of, shard_of, summing_of};
 use gw_explain::advice::advice_on;
 use gw_num::{count_in, number_in};
 
@@ -23,8 +24,8 @@ pub enum Question {
     Explain,
     /// Its listed object code, or that of an object.
     List,
-    /// The contents of its run over time, as a picture.
-    Chart,
+    /// The points of its chart, as records.
+    Points(Span),
     /// A text of GPSS World in this language.
     Convert,
     /// The steps of its run, from one time of the clock to another.
@@ -43,6 +44,30 @@ pub enum Question {
     },
 }
 
+/// From which clock to which a run is shown, both in clock units.
+#[derive(Clone, Copy, Debug, PartialEq, Eq)]
+pub struct Span {
+    /// The first clock.
+    pub from: u64,
+    /// The last clock, which isn't less.
+    pub to: u64,
+}
+
+/// The whole of any run: no clock is above this.
+const WHOLE: Span = Span {
+    from: 0,
+    to: (1 << 63) - 1,
+};
+
+/// What is asked of a chart.
+#[derive(Clone, Copy)]
+pub struct Chart<'a> {
+    /// From when to when the run is shown.
+    pub span: Span,
+    /// The name of what is run; it may be empty.
+    pub name: &'a str,
+}
+
 /// What is asked of many runs.
 #[derive(Clone, Copy)]
 pub struct Study<'a> {
@@ -59,6 +84,8 @@ pub struct Study<'a> {
 pub enum Command<'a> {
     /// Something is asked of a model.
     Ask(Question),
+    /// The contents of a model's run over time, as a picture.
+    Chart(Chart<'a>),
     /// What the code of a refusal means.
     Code(u16),
     /// How the program is used.
@@ -69,6 +96,14 @@ pub enum Command<'a> {
     Study(Study<'a>),
     /// What many runs of two models say, beside one another.
     Compare(Study<'a>),
+    /// Runs as rows.
+    Runs(Runs<'a>),
+    /// What rows of runs say.
+    Summary(Summing),
+    /// The object of a run.
+    Object(LoneRun<'a>),
+    /// The rows of a share of an experiment.
+    Shard(Shard),
 }
 
 /// A time of the clock.
@@ -119,7 +154,11 @@ fn command_named(name: &str) -> Option<Command<'static>>
     match name {
         "explain" => Some(Command::Ask(Question::Explain)),
         "list" => Some(Command::Ask(Question::List)),
-        "chart" => Some(Command::Ask(Question::Chart)),
+        "chart" => Some(Command::Chart(Chart {
+            span: WHOLE,
+            name: "",
+        })),
+        "points" => Some(Command::Ask(Question::Points(WHOLE))),
         "convert" => Some(Command::Ask(Question::Convert)),
         "report" => Some(Command::Ask(Question::Report { seed: 0, count: 0 })),
         "help" | "--help" => Some(Command::Help),
@@ -138,10 +177,95 @@ fn command_of_two(name: &str, first: &str) -> Option<Command<'static>>
     }
 }
 
+/// From when to when, where both words are times and the second isn't before the first.
+fn span_of(from: &str, to: &str) -> Option<Span>
+    ensures { result ≡ model.span_of from.now to.now }
+{
+    let from = count_in(from)?;
+    let to = count_in(to)?;
+    if from <= to && to < 1 << 63 {
+        Some(Span { from, to })
+    } else {
+        None
+    }
+}
+
+/// Whether a word may be a name in a title: it has no control characters, which XML hasn't.
+fn is_name(word: &str) -> bool
+    ensures { result ≡ model.is_name word.now }
+{
+    word.as_bytes().iter().all(|byte| *byte >= 32)
+}
+
+/// The command `chart` of a part of a run, under a name.
+fn chart_named(span: Span, name: &str) -> Option<Command<'_>>
+    ensures command { option_map model.act_of result ≡ model.chart_named span name.now }
+    ensures fit { IfSome result MayBeCarriedOut }
+{
+    if is_name(name) {
+        Some(Command::Chart(Chart { span, name }))
+    } else {
+        None
+    }
+}
+
+/// The command `points`, where both words are times.
+fn points_of(from: &str, to: &str) -> Option<Command<'static>>
+    ensures command { option_map model.act_of result
+        ≡ model.points_of (model.span_of from.now to.now) }
+    ensures fit { IfSome result MayBeCarriedOut }
+{
+    let span = span_of(from, to)?;
+    Some(Command::Ask(Question::Points(span)))
+}
+
+/// The command `chart`, where both words are times, under a name.
+fn chart_of<'a>(from: &str, to: &str, name: &'a str) -> Option<Command<'a>>
+    ensures command { option_map model.act_of result
+        ≡ model.chart_of (model.span_of from.now to.now) name.now }
+    ensures fit { IfSome result MayBeCarriedOut }
+{
+    match span_of(from, to) {
+        Some(span) => chart_named(span, name),
+        None => None,
+    }
+}
+
+/// The command `chart` of a whole run or from a time to another: two words are `--name` and a name, or times.
+fn chart_of_two<'a>(first: &str, second: &'a str) -> Option<Command<'a>>
+    ensures command { option_map model.act_of result ≡ model.chart_of_two first.now second.now }
+    ensures fit { IfSome result MayBeCarriedOut }
+{
+    if first == "--name" {
+        return chart_named(WHOLE, second);
+    }
+    chart_of(first, second, "")
+}
+
+/// The command that five words name: `chart`, two times, `--name` and a name.
+fn command_of_five<'a>(
+    name: &str,
+    first: &str,
+    second: &str,
+    key: &str,
+    title: &'a str,
+) -> Option<Command<'a>>
+    ensures command { option_map model.act_of result
+        ≡ model.command_of_five name.now first.now second.now key.now title.now }
+    ensures fit { IfSome result MayBeCarriedOut }
+{
+    if name == "chart" && key == "--name" {
+        chart_of(first, second, title)
+    } else {
+        None
+    }
+}
+
 /// The command `trace`, where both words are times.
 fn trace_of(from: &str, to: &str) -> Option<Command<'static>>
-    ensures { option_map model.act_of result
+    ensures command { option_map model.act_of result
         ≡ model.trace_of (model.clock_in from.now) (model.clock_in to.now) }
+    ensures fit { IfSome result MayBeCarriedOut }
 {
     let from = clock_in(from)?;
     let to = clock_in(to)?;
@@ -150,19 +274,24 @@ fn trace_of(from: &str, to: &str) -> Option<Command<'static>>
 
 /// The command `report`, where the words are a seed and a count.
 fn report_of(seed: &str, count: &str) -> Option<Command<'static>>
-    ensures { option_map model.act_of result
+    ensures command { option_map model.act_of result
         ≡ model.report_of (number_below (2 ^ 32) seed.now) (number_below (2 ^ 64) count.now) }
+    ensures fit { IfSome result MayBeCarriedOut }
 {
     let seed = number_in(seed)?;
     let count = count_in(count)?;
     Some(Command::Ask(Question::Report { seed, count }))
 }
 
-/// The command that three words name: `trace` or `report`.
-fn command_of_three(name: &str, first: &str, second: &str) -> Option<Command<'static>>
-    ensures { option_map model.act_of result ≡ model.command_of_three name.now first.now second.now }
+/// The command that three words name: `chart`, `points`, `trace` or `report`.
+fn command_of_three<'a>(name: &str, first: &str, second: &'a str) -> Option<Command<'a>>
+    ensures command { option_map model.act_of result
+        ≡ model.command_of_three name.now first.now second.now }
+    ensures fit { IfSome result MayBeCarriedOut }
 {
     match name {
+        "chart" => chart_of_two(first, second),
+        "points" => points_of(first, second),
         "trace" => trace_of(first, second),
         "report" => report_of(first, second),
         _ => None,
@@ -215,7 +344,7 @@ fn study_with<'a>(runs: u32, count: u64, words: &'a [String]) -> Option<Study<'a
 }
 
 /// The count that the first of these words is, if it is one.
-fn first_count(words: &[String]) -> Option<u64>
+pub(crate) fn first_count(words: &[String]) -> Option<u64>
     ensures { result ≡ model.first_count (map string_bytes words.now) }
 {
     match words {
@@ -225,7 +354,7 @@ fn first_count(words: &[String]) -> Option<u64>
 }
 
 /// Words but the first.
-fn behind_first(words: &[String]) -> &[String]
+pub(crate) fn behind_first(words: &[String]) -> &[String]
     ensures { map string_bytes result.now ≡ model.behind_first (map string_bytes words.now) }
 {
     match words {
@@ -291,7 +420,68 @@ fn compares(words: &[String]) -> Option<Command<'_>>
     }
 }
 
-/// The command that up to three words name.
+/// The command `runs`.
+fn rows(words: &[String]) -> Option<Command<'_>>
+    ensures command { option_map model.act_of result
+        ≡ option_map model.Rows (model.runs_of (map string_bytes words.now)) }
+    ensures fit { IfSome result MayBeCarriedOut }
+{
+    match runs_of(words) {
+        Some(runs) => Some(Command::Runs(runs)),
+        None => None,
+    }
+}
+
+/// The command `summary`.
+fn sums(words: &[String]) -> Option<Command<'_>>
+    ensures command { option_map model.act_of result
+        ≡ option_map model.Sums (model.summing_of (map string_bytes words.now)) }
+    ensures fit { IfSome result MayBeCarriedOut }
+{
+    match summing_of(words) {
+        Some(summing) => Some(Command::Summary(summing)),
+        None => None,
+    }
+}
+
+/// The command `object`.
+fn object(words: &[String]) -> Option<Command<'_>>
+    ensures command { option_map model.act_of result
+        ≡ option_map model.Object (model.lone_run_of (map string_bytes words.now)) }
+    ensures fit { IfSome result MayBeCarriedOut }
+{
+    match lone_run_of(words) {
+        Some(run) => Some(Command::Object(run)),
+        None => None,
+    }
+}
+
+/// The command `shard`.
+fn shares(words: &[String]) -> Option<Command<'_>>
+    ensures command { option_map model.act_of result
+        ≡ option_map model.Shares (model.shard_of (map string_bytes words.now)) }
+    ensures fit { IfSome result MayBeCarriedOut }
+{
+    match shard_of(words) {
+        Some(shard) => Some(Command::Shard(shard)),
+        None => None,
+    }
+}
+
+/// The command that more than three words name.
+#[tactic(auto, using(crate::proofs::Fewness::none_of_more))]
+fn command_of_more(words: &[String]) -> Option<Command<'_>>
+    ensures command { option_map model.act_of result
+        ≡ model.command_of_more (map string_bytes words.now) }
+    ensures fit { IfSome result MayBeCarriedOut }
+{
+    match words {
+        [name, first, second, key, title] => command_of_five(name, first, second, key, title),
+        _ => None,
+    }
+}
+
+/// The command that a few words name.
 fn command_of_few(words: &[String]) -> Option<Command<'_>>
     ensures command { option_map model.act_of result
         ≡ model.command_of_few (map string_bytes words.now) }
@@ -301,7 +491,7 @@ fn command_of_few(words: &[String]) -> Option<Command<'_>>
         [name] => command_named(name),
         [name, first] => command_of_two(name, first),
         [name, first, second] => command_of_three(name, first, second),
-        _ => None,
+        _ => command_of_more(words),
     }
 }
 
@@ -316,16 +506,25 @@ fn command_with<'a>(name: &str, behind: &'a [String], words: &'a [String]) -> Op
         studies(behind)
     } else if name == "compare" {
         compares(behind)
+    } else if name == "runs" {
+        rows(behind)
+    } else if name == "summary" {
+        sums(behind)
+    } else if name == "object" {
+        object(behind)
+    } else if name == "shard" {
+        shares(behind)
     } else {
         command_of_few(words)
     }
 }
 
-/// The command that these words name: `explain`, and perhaps the code of a refusal; `list`, `chart`, `convert`; `trace` and two times below
-/// 2^63; `report`, and perhaps a seed below 2^32 and a count below 2^64; `study` or `compare`, a number of runs, 1 to 512, perhaps
-/// a count below 2^64, and options ([`Options`]); `help`, `--help` or `--version`. Numbers are in decimal digits alone. As many
-/// studies of so many runs may be asked for as 512 runs have; there may be 1 to 16 workers; CSV and a picture aren't asked for
-/// at once.
+/// The command that these words name: `explain`, and perhaps the code of a refusal; `list`, `convert`; `trace` and two times below 2^63;
+/// `points`, and perhaps two times of which the second isn't before the first; `chart`, and perhaps such times, and perhaps `--name`
+/// and a name without control characters; `report`, and perhaps a seed below 2^32 and a count below 2^64; `study` or `compare`, a
+/// number of runs, 1 to 512, perhaps a count below 2^64, and options ([`Options`]); `help`, `--help` or `--version`. Numbers are in
+/// decimal digits alone. As many studies of so many runs may be asked for as 512 runs have; there may be 1 to 16 workers; CSV and a
+/// picture aren't asked for at once.
 pub fn command_of(words: &[String]) -> Option<Command<'_>>
     ensures command { option_map model.act_of result ≡ model.command_in (map string_bytes words.now) }
     ensures fit { IfSome result MayBeCarriedOut }

@@ -13,7 +13,7 @@ pub struct Advice {
 }
 
 /// For each code, ascending, what is wrong, and how to mend it.
-pub const ADVICE: [(u16, &str, &str); 61] = [
+pub const ADVICE: [(u16, &str, &str); 63] = [
     (
         1,
         "The bytes end before the object does; in a batch, a length or an object is cut off.",
@@ -314,6 +314,16 @@ pub const ADVICE: [(u16, &str, &str); 61] = [
         83,
         "A number can't be put into the model: no line, or more than one, gives that name a plain number by NAME STORAGE, NAME EQU or INITIAL X$NAME; or the word is no NAME=1,2,3; or there are more than two names, or more than 64 points.",
         "Write NAME=1,2,3 for a name whose number stands on one line of the model, as NURSES STORAGE 2.",
+    ),
+    (
+        84,
+        "A line of rows isn't one of this study: it is cut off, is no row, or is of another model, count, window or point; or a run came with other numbers, or is missing.",
+        "Put together rows that planner runs or planner shard wrote for one model, each file whole. Make again the runs that are missing.",
+    ),
+    (
+        85,
+        "A line that begins with *! asks for no experiment, or none says how many runs there are.",
+        "Write *! runs 200, and perhaps *! vary NURSES 1 2 3, *! count 100 and *! from 50, each on a line of its own.",
     ),
 ];
 

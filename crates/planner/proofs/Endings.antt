@@ -1,5 +1,5 @@
 -- With which statuses answers end.
-use Rattle.std.proofs.Common.{◌≡◌, ◌⊎◌, ℕ, List, Bool, true, false, Result, Ok, Err, MatchResult, inl, inr}
+use Rattle.std.proofs.Common.{◌≡◌, ◌⊎◌, ℕ, List, [], ◌∷◌, Bool, true, false, Result, Ok, Err, MatchResult, inl, inr}
 use Rattle.std.proofs.Common.{◌+◌, take}
 use Rattle.std.specs.Prelude.{MatchBool}
 use Rattle.gw_object.specs.declared.limits.TheConstants.{MOST_BYTES}
@@ -17,16 +17,25 @@ use Rattle.gw_explain.specs.Explanation.{Begins, IsAdvised, IsExplainedModel, Is
 use Rattle.gw_listing.specs.Listing.{IsListingOf, TellsRefusal, IsListedModel, IsListedText, IsListedObject}
 use Rattle.gw_model_jobs.specs.ModelJobs.{AnswersModel}
 use Rattle.gw_trace.specs.Trace.{IsTrace}
-use Rattle.gw_chart.specs.Charts.{IsChart}
+use Rattle.gw_chart.specs.Charts.{IsChart, IsSheet}
 use Rattle.gw_study.specs.Study.{IsStudy}
 use Rattle.gw_study.specs.declared.request.StudyRequest.{StudyRequest}
-use Rattle.gw_command_line.specs.Words.{Demand}
 use Rattle.gw_alternatives.specs.declared.form.Form.{Form}
 use Rattle.gw_alternatives.specs.Alternatives.{ArePoints, AreModels}
 use Rattle.gw_alternatives.specs.Told.{IsAnswerAbout, IsToldOr}
-use Rattle.planner.specs.Answers.{IsReported, asked, answering, is_plain, request_of, words_of, studied_with, compared, studied, studying}
+use Rattle.gw_alternatives.specs.declared.alternative.Alternative.{Alternative}
+use Rattle.gw_shards.specs.Objects.{IsSpelled, IsFirstObject}
+use Rattle.gw_shards.specs.Shares.{IsShareOr}
+use Rattle.gw_command_line.specs.Words.{Demand, RunsDemand, LoneDemand}
+use Rattle.gw_command_line.specs.declared.rows.Shard.{Shard}
+use Rattle.gw_command_line.specs.declared.rows.Summing.{Summing}
+use Rattle.gw_summary.specs.Telling.{IsSummary}
+use Rattle.gw_summary.specs.declared.rows.Rows.{Rows as RowsOfStudy}
+use Rattle.gw_summary.specs.declared.telling.SummaryRequest.{SummaryRequest}
+use Rattle.planner.specs.Answers.{IsReported, asked, answering, charted, charting, window_of, is_plain, request_of, words_of, studied_with, compared, studied, studying, rows_asked, share_asked, object_asked, of_front, summed}
 use Rattle.gw_command_line.specs.declared.words.Question.{Question}
-use Rattle.gw_command_line.specs.declared.words.Question.TheVariants.{Explain, List as Lists, Chart, Convert, Trace, Report}
+use Rattle.gw_command_line.specs.declared.words.Question.TheVariants.{Explain, List as Lists, Points, Convert, Trace, Report}
+use Rattle.gw_command_line.specs.declared.words.Span.{Span}
 
 explained_model : (bytes : List ℕ) (ss : _) (text : List ℕ) (status : ℕ) → IsExplainedModel bytes ss text status → IsEnd status
 explained_model bytes ss text status (inl h) = inl h.0
@@ -94,7 +103,7 @@ ends Explain bytes text status h =
     of_either (is_object bytes) _ _ status (explained_object (object_of bytes) text status) (explained_text bytes text status) h
 ends Lists bytes text status h =
     of_either (is_object bytes) _ _ status (listed_object (object_of bytes) text status) (listed_text bytes text status) h
-ends Chart bytes text status h = shown IsChart bytes text status h
+ends (Points span) bytes text status h = shown (IsSheet (window_of span)) bytes text status h
 ends Convert bytes text status h = inl h.ends
 ends (Trace from to) bytes text status h = shown (IsTrace from to) bytes text status h
 ends (Report seed count) bytes text status h = report seed count bytes text status h
@@ -103,6 +112,42 @@ ends (Report seed count) bytes text status h = report seed count bytes text stat
 pub question_ends : (question : Question) → Ends (answering question)
 question_ends question bytes text status h = ends question _ text status h
 
+pub charting_ends : (span : Span) (name : List ℕ) → Ends (charting span name)
+charting_ends span name bytes text status h = shown (IsChart (window_of span) name) (take (MOST_BYTES + 1) bytes) text status h
+
 pub studying_ends : (is_pair : Bool) (d : Demand) → Ends (studying is_pair d)
 studying_ends true d bytes text status h = pair d (take (MOST_BYTES + 1) bytes) text status h
 studying_ends false d bytes text status h = alone (is_plain d.options) d (take (MOST_BYTES + 1) bytes) text status h
+
+-- those of rows, shares, objects and summaries
+object_end : (parts : Parts) (out : List ℕ) (status : ℕ) → IsSpelled parts out status → IsEnd status
+object_end parts out status (inl h) = inl h.0
+object_end parts out status (inr h) = inr h
+
+first_object : (points : List Alternative) (run : ℕ) (out : List ℕ) (status : ℕ) → IsFirstObject points run out status → IsEnd status
+first_object [] run out status h = absurd h
+first_object (point ∷ points) run out status h = object_end _ out status h
+
+of_share : (text : List ℕ) (experiment : _) (number shares : ℕ) (out : List ℕ) (status : ℕ) → IsShareOr text experiment number shares out status → IsEnd status
+of_share text experiment number shares out status (inl h) = inl h.0
+of_share text experiment number shares out status (inr h) = inr h.0
+
+pub rows_ends : (d : RunsDemand) → Ends (of_front (rows_asked d))
+rows_ends d bytes text status (inl h) = inl h.0
+rows_ends d bytes text status (inr h) = inr h.0
+
+pub share_ends : (shard : Shard) → Ends (of_front (share_asked shard))
+share_ends shard bytes text status (inl h) = of_share _ h.0 shard.number shard.shares text status h.1
+share_ends shard bytes text status (inr h) = inr h.0
+
+pub object_ends : (d : LoneDemand) → Ends (of_front (object_asked d))
+object_ends d bytes text status (inl h) = first_object h.0 d.run text status h.2
+object_ends d bytes text status (inr h) = inr h
+
+summary_end : (rows : RowsOfStudy) (request : SummaryRequest) (text : List ℕ) (status : ℕ) → IsSummary rows request text status → IsEnd status
+summary_end rows request text status (inl h) = inl h.0
+summary_end rows request text status (inr h) = inr h
+
+pub summed_ends : (summing : Summing) → Ends (summed summing)
+summed_ends summing bytes text status (inl h) = summary_end h.0 _ text status h.1
+summed_ends summing bytes text status (inr h) = inr h

@@ -4,3 +4,4 @@ pub mod Fronts
 pub mod Telling
 pub mod Reports
 pub mod Conversions
+pub mod Summing

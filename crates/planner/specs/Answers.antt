@@ -2,7 +2,7 @@
 use Rattle.std.specs.Prelude.{◌≡◌, ◌≢◌, ◌≤◌, ◌<◌, ◌⊎◌, ℕ, ◌+◌, List, ◌++◌, take, codes, Option, None, Some, option_to_list, is_none, Bool, true, false, not, ◌&&◌, MatchBool}
 use Rattle.std.specs.Option.{unwrap_or}
 use Rattle.gw_object.specs.declared.limits.TheConstants.{MOST_BYTES}
-use Rattle.gw_answers.specs.Status.{ended, no_memory}
+use Rattle.gw_answers.specs.Status.{ended, refused, no_memory}
 use Rattle.gw_answers.specs.Answer.{IsAnswer}
 use Rattle.gw_answers.specs.Assembly.{IsAssembly}
 use Rattle.gw_answers.specs.Requests.{Answering}
@@ -12,7 +12,8 @@ use Rattle.gw_explain.specs.Meaning.{meaning}
 use Rattle.gw_listing.specs.Listing.{IsListed}
 use Rattle.gw_model_jobs.specs.ModelJobs.{AnswersModel}
 use Rattle.gw_trace.specs.Trace.{IsTrace}
-use Rattle.gw_chart.specs.Charts.{IsChart}
+use Rattle.gw_chart.specs.Charts.{IsChart, IsSheet}
+use Rattle.gw_chart.specs.declared.window.Window.{Window}
 use Rattle.gw_convert.specs.Pieces.{IsConverted}
 use Rattle.gw_study.specs.Study.{IsStudy}
 use Rattle.gw_study.specs.declared.request.StudyRequest.{StudyRequest}
@@ -20,9 +21,19 @@ use Rattle.gw_alternatives.specs.Told.{IsStudyOfPoints, IsComparison}
 use Rattle.gw_alternatives.specs.declared.form.Form.{Form}
 use Rattle.gw_alternatives.specs.declared.form.Form.TheVariants.{Table, Csv, Picture}
 use Rattle.gw_command_line.specs.Options.{Choices}
-use Rattle.gw_command_line.specs.Words.{Act, Ask, Code, Help, Version, Studies, Compares, Demand}
+use Rattle.gw_command_line.specs.Words.{Act, Ask, Charts, Code, Help, Version, Studies, Compares, Rows, Sums, Object, Shares, Demand, RunsDemand, LoneDemand}
+use Rattle.gw_command_line.specs.declared.rows.Shard.{Shard}
+use Rattle.gw_command_line.specs.declared.rows.Summing.{Summing}
+use Rattle.gw_summary.specs.Telling.{IsSummary}
+use Rattle.gw_summary.specs.declared.rows.Rows.{Rows as RowsOfStudy}
+use Rattle.gw_summary.specs.declared.telling.SummaryRequest.{SummaryRequest}
+use Rattle.gw_shards.specs.Objects.{IsObjectAnswer}
+use Rattle.gw_shards.specs.Rows.{AreRows}
+use Rattle.gw_shards.specs.Shares.{IsShareAnswer}
+use Rattle.gw_shards.specs.declared.request.RowsRequest.{RowsRequest}
 use Rattle.gw_command_line.specs.declared.words.Question.{Question}
-use Rattle.gw_command_line.specs.declared.words.Question.TheVariants.{Explain, List as Lists, Chart, Convert, Trace, Report}
+use Rattle.gw_command_line.specs.declared.words.Question.TheVariants.{Explain, List as Lists, Points, Convert, Trace, Report}
+use Rattle.gw_command_line.specs.declared.words.Span.{Span}
 use Rattle.planner.specs.declared.help.TheConstants.{HELP, VERSION, USAGE}
 
 -- what is reported of a text: the report of its object, or a refusal of that; or the refusal of the text
@@ -39,11 +50,15 @@ pub record IsConversion (bytes text : List ℕ) (status : ℕ) : Type 0 where
   pub told : List ℕ
   pub whole : text ≡ new ++ told
 
+-- the window of a run that is shown
+abbrev pub window_of : Span → Window
+window_of span = record { from = span.from; to = span.to }
+
 -- what answers a question about an input
 abbrev pub asked : Question → Answering
 asked Explain = IsExplained
 asked Lists = IsListed
-asked Chart = AnswersModel IsChart
+asked (Points span) = AnswersModel (IsSheet (window_of span))
 asked Convert = IsConversion
 asked (Trace from to) = AnswersModel (IsTrace from to)
 asked (Report seed count) = IsReported seed count
@@ -51,6 +66,10 @@ asked (Report seed count) = IsReported seed count
 -- two models in one input: behind its front, which says how long the first is, the first and then the second
 abbrev pub IsPair : List ℕ → List ℕ → List ℕ → Type 0
 IsPair bytes first second = (front : List ℕ) × (bytes ≡ front ++ first ++ second)
+
+-- what answers a question for a picture under a name
+abbrev pub charted : Span → List ℕ → Answering
+charted span name = AnswersModel (IsChart (window_of span) name)
 
 -- a request for runs, by what the command line asks for
 abbrev pub request_of : Demand → StudyRequest
@@ -102,9 +121,44 @@ studied false d bytes text status = studied_alone d bytes text status
 abbrev pub studying : Bool → Demand → Answering
 studying is_pair d bytes = studied is_pair d (take (MOST_BYTES + 1) bytes)
 
+abbrev pub charting : Span → List ℕ → Answering
+charting span name bytes = charted span name (take (MOST_BYTES + 1) bytes)
+
 -- about what stands on a reader: of more bytes than a model or an object may have, about their front, which is refused
 abbrev pub answering : Question → Answering
 answering question bytes = asked question (take (MOST_BYTES + 1) bytes)
+
+-- a request for rows, by what the command line asks for
+abbrev pub rows_request_of : RunsDemand → RowsRequest
+rows_request_of d = record {
+  first = d.first;
+  end = d.end;
+  count = d.count;
+  from = unwrap_or d.options.from 0;
+  workers = unwrap_or d.options.workers 0;
+}
+
+-- the rows of runs of a model, of a share of its experiment, and the object of a run
+abbrev pub rows_asked : RunsDemand → Answering
+rows_asked d bytes text status = AreRows bytes (words_of d.options) (rows_request_of d) text status
+
+abbrev pub share_asked : Shard → Answering
+share_asked shard bytes text status = IsShareAnswer bytes shard.number shard.shares text status
+
+abbrev pub object_asked : LoneDemand → Answering
+object_asked d bytes text status = IsObjectAnswer bytes (words_of d.options) d.run d.count text status
+
+-- about what stands on a reader, up to a model's limit and one byte
+abbrev pub of_front : Answering → Answering
+of_front Asked bytes = Asked (take (MOST_BYTES + 1) bytes)
+
+-- a summary, by what the command line asks for
+abbrev pub summary_of : Summing → SummaryRequest
+summary_of summing = record { seeds = summing.seeds; all = summing.all }
+
+-- what is told of rows that were read, or a refusal
+abbrev pub summed : Summing → Answering
+summed summing bytes text status = ((rows : RowsOfStudy) × IsSummary rows (summary_of summing) text status) ⊎ (status ≡ refused)
 
 -- the line on wrong words
 abbrev pub usage_line : List ℕ
@@ -117,8 +171,13 @@ Tells text result old new = Writes text ended result old new ⊎ Writes memory_l
 -- a command answers its question, tells what a code means, or writes what the program says of itself
 abbrev pub DoesCommand : Act → Option (List ℕ) → ℕ → Option (List ℕ) → Option (List ℕ) → Type 0
 DoesCommand (Ask question) known result old new = Responds (answering question) known result old new
+DoesCommand (Charts span name) known result old new = Responds (charting span name) known result old new
 DoesCommand (Code code) known result old new = Tells (meaning code) result old new
 DoesCommand (Studies demand) known result old new = Responds (studying false demand) known result old new
 DoesCommand (Compares demand) known result old new = Responds (studying true demand) known result old new
+DoesCommand (Rows demand) known result old new = Responds (of_front (rows_asked demand)) known result old new
+DoesCommand (Sums summing) known result old new = Responds (summed summing) known result old new
+DoesCommand (Object demand) known result old new = Responds (of_front (object_asked demand)) known result old new
+DoesCommand (Shares shard) known result old new = Responds (of_front (share_asked shard)) known result old new
 DoesCommand Help known result old new = Writes HELP.now ended result old new
 DoesCommand Version known result old new = Writes VERSION.now ended result old new

@@ -11,7 +11,10 @@ the second word; without it the program reads the model from standard input.
   planner explain CODE                what the code of a refusal means, and how to mend it
   planner list MODEL                  the listed object code, of a model or of an object
   planner trace MODEL FROM TO         the steps of the run from one clock time to another
-  planner chart MODEL                 a picture (SVG) of what is where over time
+  planner chart MODEL [FROM TO]       a picture (SVG) of what is where over time, from one
+                                      clock time to another, or of the whole run;
+                                      [--name TEXT] says whose run it is
+  planner points MODEL [FROM TO]      what the picture's lines show, as records with commas
   planner convert MODEL               a text of GPSS World, written in this language
   planner report MODEL [SEED COUNT]   the report of the run, with another seed and
                                       termination count, or with the model's own
@@ -20,6 +23,11 @@ the second word; without it the program reads the model from standard input.
   planner study MODEL RUNS NURSES=2,3 the same with other numbers on the line NURSES STORAGE,
                                       NURSES EQU or INITIAL X$NURSES, and the differences
   planner compare A B RUNS [COUNT]    two models beside one another, run by run
+  planner runs MODEL FROM TO [COUNT]  a row of CSV for each run FROM, .. TO - 1, exactly
+  planner shard MODEL K/N             the rows of share K = 0, .. N - 1 of the experiment
+                                      that lines *! of the model ask for
+  planner summary ROWS [--all]        the study of such rows, from any machines
+  planner object MODEL RUN [COUNT]    the object of one run of a study, for gpssw run 0 0
   planner help                        this
   planner --version                   which version it is
 
@@ -40,4 +48,4 @@ pub const VERSION: &[u8] = b"planner 1\n";
 
 /// The line on wrong words.
 pub const USAGE: &[u8] =
-    b"usage: planner explain [CODE] | list | trace FROM TO | chart | convert | report [SEED COUNT] | study RUNS [COUNT] [NAME=K,..] [NAME=K,..] [--from W] [--seeds K] [--workers N] [--all] [--csv | --svg FIGURE] | compare RUNS [COUNT] [options of study] | help | --version\n";
+    b"usage: planner explain [CODE] | list | trace FROM TO | chart [FROM TO] [--name TEXT] | points [FROM TO] | convert | report [SEED COUNT] | study RUNS [COUNT] [NAME=K,..] [NAME=K,..] [--from W] [--seeds K] [--workers N] [--all] [--csv | --svg FIGURE] | compare RUNS [COUNT] [options of study] | runs FROM TO [COUNT] [NAME=K,..] [NAME=K,..] [--from W] [--workers N] | shard K/N [--workers N] | summary [--seeds K] [--all] | object RUN [COUNT] [NAME=K] [NAME=K] | help | --version\n";

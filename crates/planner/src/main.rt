@@ -5,6 +5,7 @@ pub mod converting;
 pub mod help;
 pub mod program;
 pub mod reporting;
+pub mod rows;
 pub mod studies;
 
 use gw_console::{ProgramFault, deliver};

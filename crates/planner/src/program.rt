@@ -8,16 +8,17 @@ ghost use Rattle.gw_console.specs.Calls.{LosesFront, LosesAtMost, TellsReads, Te
 ghost use Rattle.gw_command_line.specs.Asking.{MayBeMade};
 ghost use Rattle.gw_command_line.specs.Words.{command_in, study_view};
 ghost use Rattle.gw_explain.specs.Meaning.{meaning};
-ghost use Rattle.planner.specs.Answers.{asked, answering, studied, studying, Tells, DoesCommand, usage_line};
+ghost use Rattle.planner.specs.Answers.{window_of as window_for, asked, answering, charted, charting, studied, studying, Tells, DoesCommand, usage_line};
 
 use crate::converting::conversion;
 use crate::help::{HELP, USAGE, VERSION};
 use crate::reporting::report;
+use crate::rows::{ask_object, ask_runs, ask_shard, ask_summary};
 use crate::studies::answer_study;
 use gw_answers::Answer;
 use gw_answers::status::{ENDED, WRONG_WORDS};
-use gw_chart::chart;
-use gw_command_line::{Command, Question, Study, command_of};
+use gw_chart::{Window, chart, points};
+use gw_command_line::{Chart, Command, Question, Span, Study, command_of};
 use gw_console::{ProgramFault, deliver, or_no_memory, read_input, write_and_end};
 use gw_explain::{explain, explain_code};
 use gw_listing::list;
@@ -29,6 +30,16 @@ use std::io::{Eprint, Read, Write};
 use std::sync::Wait;
 use std::thread::Threads;
 
+/// The window of a run that is shown.
+fn window_of(span: Span) -> Window
+    ensures { result ≡ window_for span }
+{
+    Window {
+        from: span.from,
+        to: span.to,
+    }
+}
+
 /// What a question about an input comes to.
 fn answer(alloc: Global, question: Question, input: &[u8]) -> Result<Answer, Memory>
     ensures { IfOk result (λ a. asked question input.now a.text.items a.status) }
@@ -36,7 +47,7 @@ fn answer(alloc: Global, question: Question, input: &[u8]) -> Result<Answer, Mem
     match question {
         Question::Explain => explain(alloc, input),
         Question::List => list(alloc, input),
-        Question::Chart => chart(alloc, input),
+        Question::Points(span) => points(alloc, input, window_of(span)),
         Question::Convert => conversion(alloc, input),
         Question::Trace { from, to } => trace(alloc, input, from, to),
         Question::Report { seed, count } => report(alloc, input, seed, count),
@@ -75,6 +86,47 @@ pub fn ask<R: Read, W: Write>(
     ensures calls { TellsCalls result reader.old reader.new writer.old writer.new }
 {
     deliver(writer, read_and_answer(alloc, question, reader))
+}
+
+/// What a question for a picture comes to.
+fn picture(alloc: Global, asked: &Chart<'_>, input: &[u8]) -> Result<Answer, Memory>
+    ensures { IfOk result (λ a.
+        charted asked.now.span asked.now.name.now input.now a.text.items a.status) }
+{
+    chart(alloc, input, window_of(asked.span), asked.name.as_bytes())
+}
+
+/// Reads all that is to be read, and then draws a picture.
+fn read_and_draw<R: Read>(
+    alloc: Global,
+    asked: &Chart<'_>,
+    reader: &mut Input<R>,
+) -> Result<Answer, ProgramFault>
+    requires reader { reader.old.failed ≡ false }
+    ensures answer { IfOk result (λ a.
+        AnswersReader (charting asked.now.span asked.now.name.now) reader.old.left a.text.items a.status) }
+    ensures told { TellsReads result reader.old.failed reader.new.failed }
+    ensures whole { OnOk result (LosesFront (MOST_BYTES + 1) reader.old.left reader.new.left) }
+    ensures limited { LosesAtMost (MOST_BYTES + 1) reader.old.left reader.new.left }
+{
+    let input = read_input(alloc, reader)?;
+    or_no_memory(picture(alloc, asked, &input))
+}
+
+/// Draws a picture of a model's run: reads all of the model, and writes the answer, as [`ask`] does.
+pub fn ask_chart<R: Read, W: Write>(
+    alloc: Global,
+    asked: &Chart<'_>,
+    reader: &mut Input<R>,
+    writer: &mut Output<W>,
+) -> u8
+    requires reader { reader.old.failed ≡ false }
+    requires writer { writer.old.failed ≡ false }
+    ensures written { Delivers (charting asked.now.span asked.now.name.now)
+        reader.old.left result writer.old.held writer.new.held }
+    ensures calls { TellsCalls result reader.old reader.new writer.old writer.new }
+{
+    deliver(writer, read_and_draw(alloc, asked, reader))
 }
 
 /// Reads all that is to be read, and then makes the runs that are asked for.
@@ -142,8 +194,13 @@ pub fn dispatch<R: Read, W: Write, T: Threads + Wait + Sync + Eprint>(
 {
     match command_of(words) {
         Some(Command::Ask(question)) => ask(alloc, question, reader, writer),
+        Some(Command::Chart(asked)) => ask_chart(alloc, &asked, reader, writer),
         Some(Command::Study(study)) => ask_study(rt, alloc, &study, false, reader, writer),
         Some(Command::Compare(study)) => ask_study(rt, alloc, &study, true, reader, writer),
+        Some(Command::Runs(runs)) => ask_runs(rt, alloc, &runs, reader, writer),
+        Some(Command::Summary(summing)) => ask_summary(alloc, summing, reader, writer),
+        Some(Command::Object(run)) => ask_object(alloc, &run, reader, writer),
+        Some(Command::Shard(shard)) => ask_shard(rt, alloc, shard, reader, writer),
         Some(Command::Code(code)) => tell_code(alloc, code, writer),
         Some(Command::Help) => write_and_end(writer, HELP, ENDED),
         Some(Command::Version) => write_and_end(writer, VERSION, ENDED),

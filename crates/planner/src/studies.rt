@@ -58,7 +58,7 @@ fn put_word<'a>(words: &mut Vec<&'a [u8]>, word: Option<&'a str>) -> Result<(), 
 }
 
 /// The words as `NURSES=2,3`.
-fn words_of<'a>(alloc: Global, options: &Options<'a>) -> Result<Vec<&'a [u8]>, Memory>
+pub(crate) fn words_of<'a>(alloc: Global, options: &Options<'a>) -> Result<Vec<&'a [u8]>, Memory>
     ensures { IfOk result (λ words.
         map (λ w. w.now) words.items ≡ words_for (view options.now)) }
 {

@@ -1,0 +1,280 @@
+//! Runs on many machines: rows, shares, summaries, and the object of a run.
+
+ghost use Rattle.std.specs.Prelude.{◌≡◌, ◌+◌, false, IfOk, OnOk};
+ghost use Rattle.gw_answers.specs.Status.{refused as refused_status};
+ghost use Rattle.gw_command_line.specs.Asking.{AreRunsFit, IsRunFit, IsShardFit};
+ghost use Rattle.gw_command_line.specs.Rows.{runs_view, lone_view};
+ghost use Rattle.gw_console.specs.Output.{AnswersReader, Delivers};
+ghost use Rattle.gw_console.specs.Calls.{LosesFront, LosesAtMost, TellsReads, TellsCalls};
+ghost use Rattle.planner.specs.Reading.{TellsRows};
+ghost use Rattle.planner.specs.Answers.{rows_asked, rows_request_of, share_asked, object_asked, of_front, summed};
+
+use crate::studies::words_of;
+use gw_answers::Answer;
+use gw_answers::status::REFUSED;
+use gw_command_line::{LoneRun, Runs, Shard, Summing};
+use gw_console::{ProgramFault, deliver, or_no_memory, read_input};
+use gw_object::{MOST_BYTES, Memory};
+use gw_shards::{RowsRequest, object_of_run, rows_between, rows_of_share};
+use gw_streams::{Input, Output};
+use gw_summary::{NoRow, Pieces, RowFault, SummaryRequest, refusal_of, summary};
+use std::alloc::Global;
+use std::io::{Eprint, Read, Write};
+use std::thread::Threads;
+
+/// How many bytes of rows are read at once.
+const PIECE: usize = 16_384;
+
+/// What keeps rows from being read to the end.
+#[derive(Drop)]
+enum NoRows {
+    /// A line isn't taken.
+    Row(NoRow),
+    /// A read failed.
+    Read,
+}
+
+/// What is asked for, as the library of rows has it.
+fn request_of(runs: &Runs<'_>) -> RowsRequest
+    ensures { result ≡ rows_request_of (runs_view runs.now) }
+{
+    RowsRequest {
+        first: runs.first,
+        end: runs.end,
+        count: runs.count,
+        from: runs.options.from.unwrap_or(0),
+        workers: runs.options.workers.unwrap_or(0),
+    }
+}
+
+/// The rows of runs of a model.
+fn rows_of<T: Threads + Sync + Eprint>(
+    rt: &T,
+    alloc: Global,
+    runs: &Runs<'_>,
+    text: &[u8],
+) -> Result<Answer, Memory>
+    requires { AreRunsFit runs.now }
+    ensures { IfOk result (λ a. rows_asked (runs_view runs.now) text.now a.text.items a.status) }
+{
+    let words = words_of(alloc, &runs.options)?;
+    let request = request_of(runs);
+    rows_between(rt, alloc, text, &words, &request)
+}
+
+/// Reads a model, and makes the runs that are asked for.
+fn read_and_run<R: Read, T: Threads + Sync + Eprint>(
+    rt: &T,
+    alloc: Global,
+    runs: &Runs<'_>,
+    reader: &mut Input<R>,
+) -> Result<Answer, ProgramFault>
+    requires fit { AreRunsFit runs.now }
+    requires reader { reader.old.failed ≡ false }
+    ensures answer { IfOk result (λ a.
+        AnswersReader (of_front (rows_asked (runs_view runs.now))) reader.old.left a.text.items a.status) }
+    ensures told { TellsReads result reader.old.failed reader.new.failed }
+    ensures whole { OnOk result (LosesFront (MOST_BYTES + 1) reader.old.left reader.new.left) }
+    ensures limited { LosesAtMost (MOST_BYTES + 1) reader.old.left reader.new.left }
+{
+    let input = read_input(alloc, reader)?;
+    or_no_memory(rows_of(rt, alloc, runs, &input))
+}
+
+/// Makes runs of a model: reads all of it, and writes their rows. It waits for its workers, and tells on standard error how far
+/// it is.
+pub fn ask_runs<R: Read, W: Write, T: Threads + Sync + Eprint>(
+    rt: &T,
+    alloc: Global,
+    runs: &Runs<'_>,
+    reader: &mut Input<R>,
+    writer: &mut Output<W>,
+) -> u8
+    requires fit { AreRunsFit runs.now }
+    requires reader { reader.old.failed ≡ false }
+    requires writer { writer.old.failed ≡ false }
+    ensures written { Delivers (of_front (rows_asked (runs_view runs.now)))
+        reader.old.left result writer.old.held writer.new.held }
+    ensures calls { TellsCalls result reader.old reader.new writer.old writer.new }
+{
+    deliver(writer, read_and_run(rt, alloc, runs, reader))
+}
+
+/// The rows of a share of a model's experiment.
+fn share_of<T: Threads + Sync + Eprint>(
+    rt: &T,
+    alloc: Global,
+    shard: Shard,
+    text: &[u8],
+) -> Result<Answer, Memory>
+    requires { IsShardFit shard }
+    ensures { IfOk result (λ a. share_asked shard text.now a.text.items a.status) }
+{
+    rows_of_share(rt, alloc, text, shard.number, shard.shares, shard.workers)
+}
+
+/// Reads a model, and makes the runs of a share.
+fn read_and_share<R: Read, T: Threads + Sync + Eprint>(
+    rt: &T,
+    alloc: Global,
+    shard: Shard,
+    reader: &mut Input<R>,
+) -> Result<Answer, ProgramFault>
+    requires fit { IsShardFit shard }
+    requires reader { reader.old.failed ≡ false }
+    ensures answer { IfOk result (λ a.
+        AnswersReader (of_front (share_asked shard)) reader.old.left a.text.items a.status) }
+    ensures told { TellsReads result reader.old.failed reader.new.failed }
+    ensures whole { OnOk result (LosesFront (MOST_BYTES + 1) reader.old.left reader.new.left) }
+    ensures limited { LosesAtMost (MOST_BYTES + 1) reader.old.left reader.new.left }
+{
+    let input = read_input(alloc, reader)?;
+    or_no_memory(share_of(rt, alloc, shard, &input))
+}
+
+/// Makes a share of the runs that a model asks for: reads all of it, and writes their rows, as [`ask_runs`] does.
+pub fn ask_shard<R: Read, W: Write, T: Threads + Sync + Eprint>(
+    rt: &T,
+    alloc: Global,
+    shard: Shard,
+    reader: &mut Input<R>,
+    writer: &mut Output<W>,
+) -> u8
+    requires fit { IsShardFit shard }
+    requires reader { reader.old.failed ≡ false }
+    requires writer { writer.old.failed ≡ false }
+    ensures written { Delivers (of_front (share_asked shard))
+        reader.old.left result writer.old.held writer.new.held }
+    ensures calls { TellsCalls result reader.old reader.new writer.old writer.new }
+{
+    deliver(writer, read_and_share(rt, alloc, shard, reader))
+}
+
+/// The object of a run of a model.
+fn object_of(alloc: Global, run: &LoneRun<'_>, text: &[u8]) -> Result<Answer, Memory>
+    requires { IsRunFit run.now }
+    ensures { IfOk result (λ a. object_asked (lone_view run.now) text.now a.text.items a.status) }
+{
+    let words = words_of(alloc, &run.options)?;
+    object_of_run(alloc, text, &words, run.run, run.count)
+}
+
+/// Reads a model, and makes the object of a run of it.
+fn read_and_make<R: Read>(
+    alloc: Global,
+    run: &LoneRun<'_>,
+    reader: &mut Input<R>,
+) -> Result<Answer, ProgramFault>
+    requires fit { IsRunFit run.now }
+    requires reader { reader.old.failed ≡ false }
+    ensures answer { IfOk result (λ a.
+        AnswersReader (of_front (object_asked (lone_view run.now))) reader.old.left a.text.items a.status) }
+    ensures told { TellsReads result reader.old.failed reader.new.failed }
+    ensures whole { OnOk result (LosesFront (MOST_BYTES + 1) reader.old.left reader.new.left) }
+    ensures limited { LosesAtMost (MOST_BYTES + 1) reader.old.left reader.new.left }
+{
+    let input = read_input(alloc, reader)?;
+    or_no_memory(object_of(alloc, run, &input))
+}
+
+/// Writes the object of a run of a model: reads all of the model before.
+pub fn ask_object<R: Read, W: Write>(
+    alloc: Global,
+    run: &LoneRun<'_>,
+    reader: &mut Input<R>,
+    writer: &mut Output<W>,
+) -> u8
+    requires fit { IsRunFit run.now }
+    requires reader { reader.old.failed ≡ false }
+    requires writer { writer.old.failed ≡ false }
+    ensures written { Delivers (of_front (object_asked (lone_view run.now)))
+        reader.old.left result writer.old.held writer.new.held }
+    ensures calls { TellsCalls result reader.old reader.new writer.old writer.new }
+{
+    deliver(writer, read_and_make(alloc, run, reader))
+}
+
+/// One read of rows. It answers how many bytes came; 0 is the end.
+fn read_piece<R: Read>(
+    alloc: Global,
+    reader: &mut Input<R>,
+    buffer: &mut [u8],
+    pieces: &mut Pieces,
+) -> Result<usize, NoRows>
+    requires { reader.old.failed ≡ false }
+    ensures { TellsRows result reader.new.failed }
+{
+    match reader.read(buffer) {
+        Ok(count) => match pieces.add(alloc, &buffer[..count]) {
+            Ok(()) => Ok(count),
+            Err(none) => Err(NoRows::Row(none)),
+        },
+        Err(_) => Err(NoRows::Read),
+    }
+}
+
+/// Reads rows to their end, or to a line that is refused.
+fn read_pieces<R: Read>(
+    alloc: Global,
+    reader: &mut Input<R>,
+    pieces: &mut Pieces,
+) -> Result<(), NoRows>
+    requires { reader.old.failed ≡ false }
+    ensures { TellsRows result reader.new.failed }
+{
+    let mut buffer = [0; PIECE];
+    for _ in 0..u64::MAX {
+        if read_piece(alloc, reader, &mut buffer, pieces)? == 0 {
+            return Ok(());
+        }
+    }
+    Ok(())
+}
+
+/// The answer that refuses a line.
+fn refused(alloc: Global, line: u64, fault: RowFault) -> Result<Answer, Memory>
+    ensures { IfOk result (λ a. a.status ≡ refused_status) }
+{
+    Ok(Answer {
+        text: refusal_of(alloc, line, &[], fault)?,
+        status: REFUSED,
+    })
+}
+
+/// Reads rows, and then tells what they say.
+fn read_and_sum<R: Read>(
+    alloc: Global,
+    summing: Summing,
+    reader: &mut Input<R>,
+) -> Result<Answer, ProgramFault>
+    requires { reader.old.failed ≡ false }
+    ensures answer { IfOk result (λ a. AnswersReader (summed summing) reader.old.left a.text.items a.status) }
+    ensures told { TellsReads result reader.old.failed reader.new.failed }
+{
+    let mut pieces = Pieces::new(alloc);
+    let request = SummaryRequest {
+        seeds: summing.seeds,
+        all: summing.all,
+    };
+    match read_pieces(alloc, reader, &mut pieces) {
+        Ok(()) => or_no_memory(summary(alloc, &pieces, request)),
+        Err(NoRows::Row(NoRow::Fault(line, fault))) => or_no_memory(refused(alloc, line, fault)),
+        Err(NoRows::Row(NoRow::Memory)) => Err(ProgramFault::Memory),
+        Err(NoRows::Read) => Err(ProgramFault::Read),
+    }
+}
+
+/// Sums up rows of runs: reads them to their end, piece by piece, and writes what a study tells of the same runs, or why a line is
+/// refused.
+pub fn ask_summary<R: Read, W: Write>(
+    alloc: Global,
+    summing: Summing,
+    reader: &mut Input<R>,
+    writer: &mut Output<W>,
+) -> u8
+    requires reader { reader.old.failed ≡ false }
+    requires writer { writer.old.failed ≡ false }
+    ensures { Delivers (summed summing) reader.old.left result writer.old.held writer.new.held }
+{
+    deliver(writer, read_and_sum(alloc, summing, reader))
+}
