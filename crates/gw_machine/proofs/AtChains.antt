@@ -28,7 +28,7 @@ use Rattle.gw_step.proofs.Residence.{resides-linked, resides-unlinked}
 use Rattle.gw_machine.specs.View.{state_of, lists_of, handle_number, member_number}
 use Rattle.gw_machine.specs.Coherence.{Linked, IsRanked, CanRest, Carries, Every}
 use Rattle.gw_machine.proofs.Handles.{active_carried, members_carried, events_carried, assemblies_carried, handles_carried, every, current_in, carries-set, carries-chain, carries-then, all_appended}
-use Rattle.gw_machine.proofs.Changes.{timed-kept, user_chain-at}
+use Rattle.gw_machine.proofs.Changes.{user_chain-at}
 use Rattle.gw_machine.proofs.Due.{agree}
 use Rattle.gw_machine.proofs.Waiters.{lists-put, all_changed, as_many}
 use Rattle.gw_machine.proofs.AtSets.{priority-found}
@@ -41,7 +41,7 @@ with_others m active q cs us = record m { active = active; transactions = q; las
 
 -- where each handle of those is held, and the others are carried
 linked-others : (m : Configuration) (active : Option Tx) (q : Population) (cs : Chain Member) (us : chain_lists.Linked) → Linked m → Carries Every m.transactions q → IsSound q → IfSome active (Holds q) → AllByRecursion (IsRanked q) cs.items
-    → ((c : ℕ) → c < length m.facilities.values → AllByRecursion (Holds q) (at [] us.lists c)) → length us.lists ≡ length m.chains.lists → ResidesOnce (state_of (with_others m active q cs us)) → Linked (with_others m active q cs us)
+    → ((c : ℕ) → c < length m.entities.facilities.values → AllByRecursion (Holds q) (at [] us.lists c)) → length us.lists ≡ length m.chains.lists → ResidesOnce (state_of (with_others m active q cs us)) → Linked (with_others m active q cs us)
 linked-others m active q cs us l c sound is_active ranked held as_many_chains resides =
     let p = m.transactions in
     let carried = λ (xs : List Member). members_carried Every p q c xs (every member_number xs) in
@@ -58,7 +58,7 @@ linked-others m active q cs us l c sound is_active ranked held as_many_chains re
       sound = sound;
       blocks = c.blocks l.blocks;
       resides = resides;
-      timed = timed-kept m (with_others m active q cs us) refl refl refl refl l.timed;
+      timed = l.timed;
     }
 
 -- other rooms of the user chains leave a machine as it was
@@ -79,7 +79,7 @@ linked-roomed m l us lists = record {
   sound = l.sound;
   blocks = l.blocks;
   resides = subst ResidesOnce (sym (state-roomed m us lists)) l.resides;
-  timed = timed-kept m (record m { chains = us }) refl refl refl refl l.timed;
+  timed = l.timed;
 }
 
 -- JOINING
@@ -99,7 +99,7 @@ all-joined P Fifo tx xs p h = all_appended P xs tx h p
 all-joined P Lifo tx xs p h = (p, h)
 
 -- the active transaction joins a user chain
-module _ (m : Configuration) (tx : Tx) (link : Link) (order : LinkOrder) (is : link.order ≡ order) (l : Linked m) (r : CanRest m tx) (there : link.chain < length m.facilities.values)
+module _ (m : Configuration) (tx : Tx) (link : Link) (order : LinkOrder) (is : link.order ≡ order) (l : Linked m) (r : CanRest m tx) (there : link.chain < length m.entities.facilities.values)
     (q : Population) (ts : q.txs ≡ put_chain tx.number (Some link.chain) m.transactions.txs) (kept : KeepsRest m.transactions q)
     (us : chain_lists.Linked) (changes : us.lists ≡ changed link.chain (joined_at order tx) m.chains.lists) where
   state-joins : state_of (with_others m None q m.current_events us) ≡ joins_chain tx.number link (state_of m)
@@ -147,7 +147,7 @@ none-first : (xs : List Tx) → first xs ≡ None → xs ≡ []
 none-first [] is = refl
 none-first (x ∷ xs) is = absurd cc
 
-module _ (m : Configuration) (l : Linked m) (c target : ℕ) (there : c < length m.facilities.values) where
+module _ (m : Configuration) (l : Linked m) (c target : ℕ) (there : c < length m.entities.facilities.values) where
   -- nobody is there to leave
   module _ (us : chain_lists.Linked) (changes : us.lists ≡ changed c rest m.chains.lists) (none : first (at [] m.chains.lists c) ≡ None) where
     pub lists-empty : us.lists ≡ m.chains.lists

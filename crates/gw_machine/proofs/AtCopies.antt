@@ -24,7 +24,7 @@ use Rattle.gw_step.proofs.Residence.{resides-entered, resides-copied}
 use Rattle.gw_machine.specs.View.{state_of, lists_of, handle_number, member_number}
 use Rattle.gw_machine.specs.Coherence.{Linked, IsRanked, Carries, Every}
 use Rattle.gw_machine.proofs.Handles.{active_carried, members_carried, events_carried, assemblies_carried, handles_carried, every, carries-insert, carries-ranked}
-use Rattle.gw_machine.proofs.Changes.{Keeps, timed-kept, linked-apart}
+use Rattle.gw_machine.proofs.Changes.{Keeps, linked-apart}
 use Rattle.gw_machine.proofs.Due.{agree}
 
 abbrev number_of : Member → ℕ
@@ -67,16 +67,16 @@ module _ (m : Configuration) (l : Linked m) (n : ℕ) (t : Transaction) (block :
         active = rw (is_q, a) (active_carried p q carries m.active l.active);
         current_events = rw (is_q, c, joined) (all_placed (IsRanked q) (λ (y : Member). int_le t.priority y.priority) newcomer m.current_events.items (record { held = newcomer-held; rank = newcomer-rank }) (carried m.current_events.items l.current_events));
         future_events = rw (is_q, fs) (events_carried Every p q carries m.future_events.items (every (λ (x : Event). x.tx.number) m.future_events.items) l.future_events);
-        delay_lists = λ e below. rw (is_q, k.waits) (carried (at [] m.waits.lists e) (l.delay_lists e (rw k.facilities at below)));
+        delay_lists = λ e below. rw (is_q, k.waits) (carried (at [] m.waits.lists e) (l.delay_lists e (rw k.entities at below)));
         retry = rw (is_q, k.waits) (carried m.waits.retry l.retry);
         assemblies = rw (is_q, k.assemblies) (assemblies_carried Every p q carries m.assemblies.items (every (λ (x : HeldAssembly). x.first.number) m.assemblies.items) l.assemblies);
-        user_chains = λ e below. rw (is_q, k.chains) (handles_carried Every p q carries (at [] m.chains.lists e) (every handle_number (at [] m.chains.lists e)) (l.user_chains e (rw k.facilities at below)));
-        listed = rw (k.waits, k.facilities) l.listed;
-        chained = rw (k.chains, k.facilities) l.chained;
+        user_chains = λ e below. rw (is_q, k.chains) (handles_carried Every p q carries (at [] m.chains.lists e) (every handle_number (at [] m.chains.lists e)) (l.user_chains e (rw k.entities at below)));
+        listed = rw (k.waits, k.entities) l.listed;
+        chained = rw (k.chains, k.entities) l.chained;
         sound = rw is_q sound;
         blocks = rw is_q (carries.blocks l.blocks);
         resides = subst ResidesOnce (sym is) (resides-copied n t target (state_of m) l.resides);
-        timed = timed-kept m new k.facilities k.storages k.queues k.clock l.timed;
+        timed = rw (k.entities, k.clock) l.timed;
       }
 
 -- the parameters of one that was there already

@@ -22,7 +22,6 @@ use Rattle.gw_step.proofs.Lists.{all_placed, all_map, map-placed}
 use Rattle.gw_step.proofs.Residence.{one_if, at_most_one, same_number, other_number, occurrences-without, resides-awaits, occurrences-one}
 use Rattle.gw_transactions.specs.Transactions.{Holds}
 use Rattle.gw_machine.proofs.Handles.{all_appended}
-use Rattle.gw_machine.proofs.Changes.{timed-kept}
 use Rattle.std.proofs.lemmas.List.{map-append}
 use Rattle.gw_machine.proofs.Due.{agree}
 
@@ -30,27 +29,27 @@ use Rattle.gw_machine.proofs.Due.{agree}
 
 -- other members of the current events chain and of the retry list, and other assemblies, each of whose handles is held
 pub linked-lists : (m new : Configuration) → new.transactions ≡ m.transactions → IfSome new.active (Holds m.transactions) → AllByRecursion (IsRanked m.transactions) new.current_events.items → new.future_events ≡ m.future_events → new.waits.lists ≡ m.waits.lists → AllByRecursion (IsRanked m.transactions) new.waits.retry
-    → AllByRecursion (IsHeldBy m.transactions) new.assemblies.items → new.chains ≡ m.chains → new.facilities ≡ m.facilities → new.storages ≡ m.storages → new.queues ≡ m.queues → new.clock ≡ m.clock → ResidesOnce (state_of new) → Linked m → Linked new
-linked-lists m new ts a cs fs ws retry sets chs fac sto que clock resides l = record {
+    → AllByRecursion (IsHeldBy m.transactions) new.assemblies.items → new.chains ≡ m.chains → new.entities ≡ m.entities → new.clock ≡ m.clock → ResidesOnce (state_of new) → Linked m → Linked new
+linked-lists m new ts a cs fs ws retry sets chs entities clock resides l = record {
   active = rw ts a;
   current_events = rw ts cs;
   future_events = rw (ts, fs) l.future_events;
-  delay_lists = λ e below. rw (ts, ws) (l.delay_lists e (rw fac at below));
+  delay_lists = λ e below. rw (ts, ws) (l.delay_lists e (rw entities at below));
   retry = rw ts retry;
   assemblies = rw ts sets;
-  user_chains = λ c below. rw (ts, chs) (l.user_chains c (rw fac at below));
-  listed = rw (ws, fac) l.listed;
-  chained = rw (chs, fac) l.chained;
+  user_chains = λ c below. rw (ts, chs) (l.user_chains c (rw entities at below));
+  listed = rw (ws, entities) l.listed;
+  chained = rw (chs, entities) l.chained;
   sound = rw ts l.sound;
   blocks = rw ts l.blocks;
   resides = resides;
-  timed = timed-kept m new fac sto que clock l.timed;
+  timed = rw (entities, clock) l.timed;
 }
 
 -- the delay lists and the retry list stay
 pub linked-members : (m new : Configuration) → new.transactions ≡ m.transactions → IfSome new.active (Holds m.transactions) → AllByRecursion (IsRanked m.transactions) new.current_events.items → new.future_events ≡ m.future_events → new.waits ≡ m.waits → AllByRecursion (IsHeldBy m.transactions) new.assemblies.items → new.chains ≡ m.chains
-    → new.facilities ≡ m.facilities → new.storages ≡ m.storages → new.queues ≡ m.queues → new.clock ≡ m.clock → ResidesOnce (state_of new) → Linked m → Linked new
-linked-members m new ts a cs fs w sets chs fac sto que clock resides l = linked-lists m new ts a cs fs (ap (λ (ws : Waiting). ws.lists) w) (rw w l.retry) sets chs fac sto que clock resides l
+    → new.entities ≡ m.entities → new.clock ≡ m.clock → ResidesOnce (state_of new) → Linked m → Linked new
+linked-members m new ts a cs fs w sets chs entities clock resides l = linked-lists m new ts a cs fs (ap (λ (ws : Waiting). ws.lists) w) (rw w l.retry) sets chs entities clock resides l
 
 -- THE CURRENT EVENTS CHAIN
 
@@ -79,11 +78,11 @@ module _ (m : Configuration) (tx : Tx) (priority : ℤ) (l : Linked m) (r : CanR
       (ap (map member_number) joined ∙ map-placed member_number (λ (y : Member). passes priority y.priority) (λ k. passes (rank_of tx.number) (rank_of k)) newcomer m.current_events.items same_places)
 
   pub linked-joined : (new : Configuration) → new.transactions ≡ m.transactions → new.active ≡ None → new.current_events.items ≡ cs → new.future_events ≡ m.future_events → new.waits ≡ m.waits → new.assemblies ≡ m.assemblies → new.chains ≡ m.chains
-      → new.facilities ≡ m.facilities → new.storages ≡ m.storages → new.queues ≡ m.queues → new.clock ≡ m.clock → state_of new ≡ rests_there → ((state_of m).lists.active ≡ Some tx.number → ResidesOnce (state_of m) → ResidesOnce rests_there) → Linked new
-  linked-joined new ts a c fs w sets chs fac sto que clock is resides =
+      → new.entities ≡ m.entities → new.clock ≡ m.clock → state_of new ≡ rests_there → ((state_of m).lists.active ≡ Some tx.number → ResidesOnce (state_of m) → ResidesOnce rests_there) → Linked new
+  linked-joined new ts a c fs w sets chs entities clock is resides =
       linked-members m new ts (rw a tt)
       (rw (c, joined) (all_placed (IsRanked m.transactions) (λ (y : Member). passes priority y.priority) newcomer m.current_events.items (record { held = r.held; rank = rank }) l.current_events))
-      fs w (rw sets l.assemblies) chs fac sto que clock
+      fs w (rw sets l.assemblies) chs entities clock
       (subst ResidesOnce (sym is) (resides (ap (option_map (λ (x : Tx). x.number)) r.active) l.resides)) l
 
 -- ASSEMBLIES
@@ -97,10 +96,10 @@ module _ (m : Configuration) (tx : Tx) (a : Assembling) (l : Linked m) (r : CanR
       ap (λ (xs : List Assembly). record (state_of m) { lists = record (lists_of m) { active = None; assemblies = xs } }) (ap (map assembly_of) begun ∙ map-append assembly_of m.assemblies.items (first ∷ []))
 
   pub linked-awaits : (new : Configuration) → new.transactions ≡ m.transactions → new.active ≡ None → new.current_events ≡ m.current_events → new.future_events ≡ m.future_events → new.waits ≡ m.waits → new.assemblies.items ≡ sets → new.chains ≡ m.chains
-      → new.facilities ≡ m.facilities → new.storages ≡ m.storages → new.queues ≡ m.queues → new.clock ≡ m.clock → state_of new ≡ awaits_set tx.number a (state_of m) → Linked new
-  linked-awaits new ts none cs fs w is_sets chs fac sto que clock is =
+      → new.entities ≡ m.entities → new.clock ≡ m.clock → state_of new ≡ awaits_set tx.number a (state_of m) → Linked new
+  linked-awaits new ts none cs fs w is_sets chs entities clock is =
       linked-members m new ts (rw none tt) (rw cs l.current_events) fs w
-      (rw (is_sets, begun) (all_appended (IsHeldBy m.transactions) m.assemblies.items first l.assemblies r.held)) chs fac sto que clock
+      (rw (is_sets, begun) (all_appended (IsHeldBy m.transactions) m.assemblies.items first l.assemblies r.held)) chs entities clock
       (subst ResidesOnce (sym is) (resides-awaits tx.number a (state_of m) (ap (option_map (λ (x : Tx). x.number)) r.active) l.resides)) l
 
 -- HOW MANY

@@ -151,11 +151,11 @@ module _ (m : Configuration) (l : Linked m) (a : HeldAssembly) (there : assembly
         (ap (map assembly_of) left ∙ map-without_first assembly_of (is_of a.block a.set) m.assemblies.items)
 
     pub linked-assembled : (new : Configuration) → new.transactions ≡ m.transactions → new.active ≡ m.active → new.current_events.items ≡ cs → new.future_events ≡ m.future_events → new.waits ≡ m.waits → new.assemblies.items ≡ sets → new.chains ≡ m.chains
-        → new.facilities ≡ m.facilities → new.storages ≡ m.storages → new.queues ≡ m.queues → new.clock ≡ m.clock → state_of new ≡ assembled (assembly_of a) (state_of m) → Linked new
-    linked-assembled new ts active c fs w s chs fac sto que clock now =
+        → new.entities ≡ m.entities → new.clock ≡ m.clock → state_of new ≡ assembled (assembly_of a) (state_of m) → Linked new
+    linked-assembled new ts active c fs w s chs entities clock now =
         linked-members m new ts (rw active l.active)
         (rw (c, joined) (all_placed (IsRanked m.transactions) (λ (y : Member). int_le priority y.priority) newcomer m.current_events.items (record { held = waiter-held b is; rank = rank }) l.current_events))
-        fs w (rw (s, left) (all-without_first (IsHeldBy m.transactions) (is_held_of a.block a.set) m.assemblies.items l.assemblies)) chs fac sto que clock
+        fs w (rw (s, left) (all-without_first (IsHeldBy m.transactions) (is_held_of a.block a.set) m.assemblies.items l.assemblies)) chs entities clock
         (subst ResidesOnce (sym now) (resides-assembled (assembly_of a) (state_of m) there l.resides)) l
 
   -- more are to come
@@ -169,8 +169,8 @@ module _ (m : Configuration) (l : Linked m) (a : HeldAssembly) (there : assembly
         (ap (map assembly_of) changed ∙ map-with_first_changed assembly_of (is_of a.block a.set) fewer one_fewer (λ x. refl) m.assemblies.items)
 
     pub linked-come : (new : Configuration) → new.transactions ≡ m.transactions → new.active ≡ m.active → new.current_events ≡ m.current_events → new.future_events ≡ m.future_events → new.waits ≡ m.waits → new.assemblies.items ≡ sets → new.chains ≡ m.chains
-        → new.facilities ≡ m.facilities → new.storages ≡ m.storages → new.queues ≡ m.queues → new.clock ≡ m.clock → state_of new ≡ come_to (assembly_of a) (state_of m) → Linked new
-    linked-come new ts active cs fs w s chs fac sto que clock now =
+        → new.entities ≡ m.entities → new.clock ≡ m.clock → state_of new ≡ come_to (assembly_of a) (state_of m) → Linked new
+    linked-come new ts active cs fs w s chs entities clock now =
         linked-members m new ts (rw active l.active) (rw cs l.current_events) fs w
-        (rw (s, changed) (all-with_first_changed (IsHeldBy m.transactions) (is_held_of a.block a.set) fewer (λ x h. h) m.assemblies.items l.assemblies)) chs fac sto que clock
+        (rw (s, changed) (all-with_first_changed (IsHeldBy m.transactions) (is_held_of a.block a.set) fewer (λ x h. h) m.assemblies.items l.assemblies)) chs entities clock
         (subst ResidesOnce (sym now) (resides-come (assembly_of a) (state_of m) l.resides)) l

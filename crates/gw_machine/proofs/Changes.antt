@@ -17,7 +17,7 @@ use Rattle.gw_step.specs.State.{FutureEvent, Assembly, priority_of, raised, dela
 use Rattle.gw_step.specs.Residence.{ResidesOnce, occurrences}
 use Rattle.gw_step.specs.Changes.{entered, assigned, destroyed, rests_until, arrives}
 use Rattle.gw_machine.specs.View.{state_of, lists_of, event_of, handle_number, member_number, assembly_of}
-use Rattle.gw_machine.specs.Coherence.{Linked, IsTimed, IsHeld, CanRest, Carries, Every, Others}
+use Rattle.gw_machine.specs.Coherence.{Linked, IsHeld, CanRest, Carries, Every, Others}
 use Rattle.gw_step.proofs.Lists.{all_placed, map-placed, all_same, map-map}
 use Rattle.gw_step.proofs.Residence.{resides-entered, resides-assigned, resides-destroyed, resides-rests, resides-arrives, alone}
 use Rattle.gw_machine.proofs.Handles.{active_carried, members_carried, events_carried, assemblies_carried, handles_carried, every, others, carries-set, carries-assign, carries-same, carries-insert, carries-remove}
@@ -45,13 +45,8 @@ pub record Keeps (m new : Configuration) : Type 0 where
   pub waits : new.waits ≡ m.waits
   pub assemblies : new.assemblies.items ≡ m.assemblies.items
   pub chains : new.chains ≡ m.chains
-  pub facilities : new.facilities ≡ m.facilities
-  pub storages : new.storages ≡ m.storages
-  pub queues : new.queues ≡ m.queues
+  pub entities : new.entities ≡ m.entities
   pub clock : new.clock ≡ m.clock
-
-pub timed-kept : (m new : Configuration) → new.facilities ≡ m.facilities → new.storages ≡ m.storages → new.queues ≡ m.queues → new.clock ≡ m.clock → IsTimed m → IsTimed new
-timed-kept m new f s q c h = record { facilities = rw (f, c) h.facilities; storages = rw (s, c) h.storages; queues = rw (q, c) h.queues }
 
 -- the members of a list by priority
 abbrev number_of : Member → ℕ
@@ -74,16 +69,16 @@ linked-of these m new of c sound a cs fs k resides l =
       active = a;
       current_events = rw cs (members_carried these p q c m.current_events.items of.current_events l.current_events);
       future_events = fs;
-      delay_lists = λ e below. rw k.waits (members_carried these p q c (at [] m.waits.lists e) (of.delay_lists e) (l.delay_lists e (rw k.facilities at below)));
+      delay_lists = λ e below. rw k.waits (members_carried these p q c (at [] m.waits.lists e) (of.delay_lists e) (l.delay_lists e (rw k.entities at below)));
       retry = rw k.waits (members_carried these p q c m.waits.retry of.retry l.retry);
       assemblies = rw k.assemblies (assemblies_carried these p q c m.assemblies.items of.assemblies l.assemblies);
-      user_chains = λ e below. rw k.chains (handles_carried these p q c (at [] m.chains.lists e) (of.user_chains e) (l.user_chains e (rw k.facilities at below)));
-      listed = rw (k.waits, k.facilities) l.listed;
-      chained = rw (k.chains, k.facilities) l.chained;
+      user_chains = λ e below. rw k.chains (handles_carried these p q c (at [] m.chains.lists e) (of.user_chains e) (l.user_chains e (rw k.entities at below)));
+      listed = rw (k.waits, k.entities) l.listed;
+      chained = rw (k.chains, k.entities) l.chained;
       sound = sound;
       blocks = c.blocks l.blocks;
       resides = resides;
-      timed = timed-kept m new k.facilities k.storages k.queues k.clock l.timed;
+      timed = rw (k.entities, k.clock) l.timed;
     }
 
 of-every : (m : Configuration) → AreOf Every m
@@ -141,7 +136,7 @@ linked-same m new ts ps ls sound a cs fs keeps is l = linked-carried m new (carr
 -- room for more transactions, and on the current events chain, leaves a machine as it was
 pub linked-reserved : (m : Configuration) (q : Population) (cs : Chain Member) → q.txs ≡ m.transactions.txs → q.places ≡ m.transactions.places → q.last ≡ m.transactions.last → IsSound q → cs.items ≡ m.current_events.items → Linked m → Linked (record m { transactions = q; last = q.last; current_events = cs })
 linked-reserved m q cs ts ps ls sound items l =
-    linked-same m (record m { transactions = q; last = q.last; current_events = cs }) ts ps ls sound refl items refl (record { waits = refl; assemblies = refl; chains = refl; facilities = refl; storages = refl; queues = refl; clock = refl })
+    linked-same m (record m { transactions = q; last = q.last; current_events = cs }) ts ps ls sound refl items refl (record { waits = refl; assemblies = refl; chains = refl; entities = refl; clock = refl })
     (ap (λ (xs : List (Option LiveTransaction)). record (state_of m) { transactions = xs; lists = record (lists_of m) { current_events = map member_number cs.items } }) ts
     ∙ ap (λ (xs : List Member). record (state_of m) { lists = record (lists_of m) { current_events = map member_number xs } }) items) l
 
@@ -165,16 +160,16 @@ linked-rested m new tx time ps l r a cs fs k is =
       active = rw a tt;
       current_events = rw (ps, cs) l.current_events;
       future_events = rw (ps, fs) (all_placed (IsHeld m.transactions) (λ (y : Event). int_le y.time time) (record { tx = tx; time = time }) m.future_events.items r.held l.future_events);
-      delay_lists = λ e below. rw (ps, k.waits) (l.delay_lists e (rw k.facilities at below));
+      delay_lists = λ e below. rw (ps, k.waits) (l.delay_lists e (rw k.entities at below));
       retry = rw (ps, k.waits) l.retry;
       assemblies = rw (ps, k.assemblies) l.assemblies;
-      user_chains = λ e below. rw (ps, k.chains) (l.user_chains e (rw k.facilities at below));
-      listed = rw (k.waits, k.facilities) l.listed;
-      chained = rw (k.chains, k.facilities) l.chained;
+      user_chains = λ e below. rw (ps, k.chains) (l.user_chains e (rw k.entities at below));
+      listed = rw (k.waits, k.entities) l.listed;
+      chained = rw (k.chains, k.entities) l.chained;
       sound = rw ps l.sound;
       blocks = rw ps l.blocks;
       resides = subst ResidesOnce (sym is) (resides-rests tx.number time (state_of m) active l.resides);
-      timed = timed-kept m new k.facilities k.storages k.queues k.clock l.timed;
+      timed = rw (k.entities, k.clock) l.timed;
     }
 
 pub linked-arrived : (m new : Configuration) (tx : Tx) (t : LiveTransaction) (b : ℕ) (priority time : ℤ)

@@ -5,21 +5,14 @@ use Rattle.std.specs.List.{AllByRecursion}
 use Rattle.gw_members.specs.Chain.{all_behind, due, later}
 use Rattle.gw_members.specs.declared.tx.Member.{Member}
 use Rattle.gw_members.specs.declared.tx.Event.{Event}
-use Rattle.std.proofs.lemmas.List.{length-map}
-use Rattle.gw_entities.specs.Contents.{contents_after}
-use Rattle.gw_entities.specs.Facility.{facility_after}
-use Rattle.gw_entities.specs.Storage.{storage_after}
-use Rattle.gw_entities.specs.declared.facilities.Facility.{Facility}
-use Rattle.gw_entities.specs.declared.storages.Storage.{Storage}
-use Rattle.gw_entities.specs.declared.contents.Contents.{Contents}
-use Rattle.gw_entities.specs.Numbered.{ByNumber, values_after}
 use Rattle.gw_transactions.specs.Transactions.{Population}
 use Rattle.gw_machine.specs.Configuration.{Configuration}
+use Rattle.gw_machine.specs.EntityTables.{AreTimed, states_of}
 use Rattle.gw_step.specs.State.{FutureEvent, EntityStates, priority_of}
 use Rattle.gw_step.specs.Residence.{ResidesOnce}
 use Rattle.gw_step.specs.Changes.{time_passes, clock_moves, numbers}
-use Rattle.gw_machine.specs.View.{state_of, lists_of, entities_of, event_of, member_number}
-use Rattle.gw_machine.specs.Coherence.{Linked, IsTimed, IsRanked, IsHeld, ranked}
+use Rattle.gw_machine.specs.View.{state_of, lists_of, event_of, member_number}
+use Rattle.gw_machine.specs.Coherence.{Linked, IsRanked, IsHeld, ranked}
 use Rattle.gw_step.proofs.Lists.{all_map, all_due, all_later, all_all_behind, map-all_behind, map-due, map-later, map-map}
 use Rattle.gw_step.proofs.Residence.{resides-clock}
 
@@ -59,7 +52,7 @@ module _ (p : Population) where
 module _ (m : Configuration) (time : ℤ) (cs : List Member) (fs : List Event) (g : EntityStates) (l : Linked m)
     (joined : cs ≡ all_behind (λ (x : Member). x.priority) (ranked m.transactions (due (λ (e : Event). e.time) time m.future_events.items)) m.current_events.items)
     (left : fs ≡ later (λ (e : Event). e.time) time m.future_events.items)
-    (passed : g ≡ time_passes (unsigned_abs (time -ℤ m.clock)) (entities_of m)) where
+    (passed : g ≡ time_passes (unsigned_abs (time -ℤ m.clock)) (states_of m.entities)) where
   pub state-moved : record (state_of m) { clock = time; entities = g; lists = record (lists_of m) { current_events = map member_number cs; future_events = map event_of fs } } ≡ clock_moves time (state_of m)
   state-moved =
       ap (λ (ns : List ℕ). record (state_of m) { clock = time; entities = g; lists = record (lists_of m) { current_events = ns; future_events = map event_of fs } })
@@ -68,7 +61,7 @@ module _ (m : Configuration) (time : ℤ) (cs : List Member) (fs : List Event) (
       (ap (map event_of) left ∙ map-later event_of (λ (e : Event). e.time) (λ (e : FutureEvent). e.time) time m.future_events.items (λ x. refl))
       ∙ ap (λ (h : EntityStates). record (clock_moves time (state_of m)) { entities = h }) passed
 
-  pub linked-moved : (new : Configuration) → new.transactions ≡ m.transactions → new.active ≡ m.active → new.current_events.items ≡ cs → new.future_events.items ≡ fs → new.waits ≡ m.waits → new.assemblies ≡ m.assemblies → new.chains ≡ m.chains → length new.facilities.values ≡ length m.facilities.values → IsTimed new → state_of new ≡ clock_moves time (state_of m) → Linked new
+  pub linked-moved : (new : Configuration) → new.transactions ≡ m.transactions → new.active ≡ m.active → new.current_events.items ≡ cs → new.future_events.items ≡ fs → new.waits ≡ m.waits → new.assemblies ≡ m.assemblies → new.chains ≡ m.chains → length new.entities.facilities.values ≡ length m.entities.facilities.values → AreTimed new.entities new.clock → state_of new ≡ clock_moves time (state_of m) → Linked new
   linked-moved new ts a c f ws assemblies chs count timed is = record {
     active = rw (ts, a) l.active;
     current_events = rw (ts, c, joined) (ranked-joined m.transactions time m.future_events.items m.current_events.items l.future_events l.current_events);
@@ -84,19 +77,3 @@ module _ (m : Configuration) (time : ℤ) (cs : List Member) (fs : List Event) (
     resides = subst ResidesOnce (sym is) (resides-clock time (state_of m) l.resides);
     timed = timed;
   }
-
--- THE TIME
-
--- the tables of entities after time passed
-pub entities-passed : (m : Configuration) (dt : ℕ) (f : ByNumber Facility) (s : ByNumber Storage) (q : ByNumber Contents)
-    → f ≡ values_after facility_after dt m.facilities
-    → s ≡ values_after storage_after dt m.storages
-    → q ≡ values_after contents_after dt m.queues
-    → record (entities_of m) { facilities = f.values; storages = s.values; queues = q.values } ≡ time_passes dt (entities_of m)
-entities-passed m dt f s q ff ss qq =
-    ap (λ (x : ByNumber Facility). record (entities_of m) { facilities = x.values; storages = s.values; queues = q.values }) ff
-    ∙ ap (λ (x : ByNumber Storage). record (entities_of m) { facilities = map (facility_after dt) m.facilities.values; storages = x.values; queues = q.values }) ss
-    ∙ ap (λ (x : ByNumber Contents). record (entities_of m) { facilities = map (facility_after dt) m.facilities.values; storages = map (storage_after dt) m.storages.values; queues = x.values }) qq
-
-pub count-passed : (m : Configuration) (dt : ℕ) (f : ByNumber Facility) → f ≡ values_after facility_after dt m.facilities → length f.values ≡ length m.facilities.values
-count-passed m dt f ff = ap (λ (x : ByNumber Facility). length x.values) ff ∙ length-map m.facilities.values (facility_after dt)

@@ -37,12 +37,12 @@ pub record Lends (m : Configuration) (subject : Subject) (env : Env) : Type 0 wh
   pub parameters : env.parameters.now.values ≡ parameters_for subject.tx (state_of m)
   pub clock : env.clock ≡ m.clock
   pub count : env.count ≡ m.count
-  pub facilities : env.facilities.now ≡ m.facilities
-  pub storages : env.storages.now ≡ m.storages
-  pub queues : env.queues.now ≡ m.queues
-  pub switches : env.switches.now ≡ m.switches
-  pub savevalues : env.savevalues.now ≡ m.savevalues
-  pub tables : env.tables.now ≡ m.tables
+  pub facilities : env.facilities.now ≡ m.entities.facilities
+  pub storages : env.storages.now ≡ m.entities.storages
+  pub queues : env.queues.now ≡ m.entities.queues
+  pub switches : env.switches.now ≡ m.entities.switches
+  pub savevalues : env.savevalues.now ≡ m.entities.savevalues
+  pub tables : env.tables.now ≡ m.entities.tables
   pub chains : env.chains.now ≡ m.chains
   pub entries : env.entries.now ≡ m.entries
   pub here : (b : ℕ) → at 0 env.here.now b ≡ here_count b m.transactions.txs
@@ -71,11 +71,11 @@ module _ (m : Configuration) (subject : Subject) (env : Env) (l : Lends m subjec
       let r = can.readable in
       record {
         facilities = ap (λ (t : ByNumber Facility). length t.values) l.facilities ∙ own;
-        storages = ap (λ (t : ByNumber Storage). length t.values) l.storages ∙ r.storages ∙ own;
-        queues = ap (λ (t : ByNumber Contents). length t.values) l.queues ∙ r.queues ∙ own;
-        switches = ap length l.switches ∙ r.switches ∙ own;
-        savevalues = ap length l.savevalues ∙ r.savevalues ∙ own;
-        tables = ap length l.tables ∙ r.tables ∙ own;
+        storages = ap (λ (t : ByNumber Storage). length t.values) l.storages ∙ r.entities.storages ∙ own;
+        queues = ap (λ (t : ByNumber Contents). length t.values) l.queues ∙ r.entities.queues ∙ own;
+        switches = ap length l.switches ∙ r.entities.switches ∙ own;
+        savevalues = ap length l.savevalues ∙ r.entities.savevalues ∙ own;
+        tables = ap length l.tables ∙ r.entities.tables ∙ own;
         chains = ap (λ (chains : chain_lists.Linked). length chains.lists) l.chains ∙ k.chained ∙ own;
         entries = λ b.
             let fewer : at 0 m.entries b ≤ sum m.entries = at-le-sum 0 (λ x. x) m.entries b refl in

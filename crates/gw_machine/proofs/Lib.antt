@@ -2,6 +2,7 @@ pub mod Greatest
 pub mod Evaluating
 pub mod Lending
 pub mod Handles
+pub mod Tables
 pub mod Changes
 pub mod Due
 pub mod Waiters

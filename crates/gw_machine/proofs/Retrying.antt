@@ -29,11 +29,11 @@ module _ (m : Configuration) (tx : Tx) (priority : ℤ) where
 
   pub linked-retries : Linked m → CanRest m tx → priority_of m.transactions.txs tx.number ≡ priority → (ws : Waiting) → ws.retry ≡ m.waits.retry ++ newcomer ∷ [] → ws.lists ≡ m.waits.lists
       → (new : Configuration) → new.transactions ≡ m.transactions → new.active ≡ None → new.current_events ≡ m.current_events → new.future_events ≡ m.future_events → new.waits ≡ ws → new.assemblies ≡ m.assemblies → new.chains ≡ m.chains
-      → new.facilities ≡ m.facilities → new.storages ≡ m.storages → new.queues ≡ m.queues → new.clock ≡ m.clock → state_of new ≡ retries tx.number (state_of m) → Linked new
-  linked-retries l r rank ws joined same new ts a cs fs w assemblies chs fac sto que clock is =
+      → new.entities ≡ m.entities → new.clock ≡ m.clock → state_of new ≡ retries tx.number (state_of m) → Linked new
+  linked-retries l r rank ws joined same new ts a cs fs w assemblies chs entities clock is =
       linked-lists m new ts (rw a tt) (rw cs l.current_events) fs (rw w same)
       (rw (w, joined) (all_appended (IsRanked m.transactions) m.waits.retry newcomer l.retry (record { held = r.held; rank = rank })))
-      (rw assemblies l.assemblies) chs fac sto que clock
+      (rw assemblies l.assemblies) chs entities clock
       (subst ResidesOnce (sym is) (resides-retries tx.number (state_of m) (ap (option_map (λ (x : Tx). x.number)) r.active) l.resides)) l
 
 module _ (m : Configuration) (l : Linked m) (cs : List Member) (ws : Waiting) (joined : cs ≡ all_behind (λ (x : Member). x.priority) m.waits.retry m.current_events.items) (none : ws.retry ≡ []) (same : ws.lists ≡ m.waits.lists) where
@@ -49,9 +49,9 @@ module _ (m : Configuration) (l : Linked m) (cs : List Member) (ws : Waiting) (j
       ∙ ap (λ (xs : List Member). record (woken (state_of m)) { lists = record (woken (state_of m)).lists { retry = map member_number xs } }) none
 
   pub linked-woken : (new : Configuration) → new.transactions ≡ m.transactions → new.active ≡ m.active → new.current_events.items ≡ cs → new.future_events ≡ m.future_events → new.waits ≡ ws → new.assemblies ≡ m.assemblies → new.chains ≡ m.chains
-      → new.facilities ≡ m.facilities → new.storages ≡ m.storages → new.queues ≡ m.queues → new.clock ≡ m.clock → state_of new ≡ woken (state_of m) → Linked new
-  linked-woken new ts a c fs w assemblies chs fac sto que clock is =
+      → new.entities ≡ m.entities → new.clock ≡ m.clock → state_of new ≡ woken (state_of m) → Linked new
+  linked-woken new ts a c fs w assemblies chs entities clock is =
       linked-lists m new ts (rw a l.active)
       (rw (c, joined) (all_all_behind (IsRanked m.transactions) (λ (x : Member). x.priority) m.waits.retry m.current_events.items l.retry l.current_events))
-      fs (rw w same) (rw (w, none) tt) (rw assemblies l.assemblies) chs fac sto que clock
+      fs (rw w same) (rw (w, none) tt) (rw assemblies l.assemblies) chs entities clock
       (subst ResidesOnce (sym is) (resides-woken (state_of m) l.resides)) l

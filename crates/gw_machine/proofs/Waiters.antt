@@ -19,7 +19,7 @@ use Rattle.gw_machine.specs.View.{state_of, lists_of, member_number}
 use Rattle.gw_machine.specs.Coherence.{Linked, IsRanked}
 use Rattle.gw_step.proofs.Lists.{all_placed, map-behind}
 use Rattle.gw_step.proofs.Residence.{same_number, waits-once, resides-waits, resides-called}
-use Rattle.gw_machine.proofs.Changes.{delay_list-at, timed-kept}
+use Rattle.gw_machine.proofs.Changes.{delay_list-at}
 use Rattle.gw_machine.proofs.Due.{agree}
 
 -- LISTS OF SEVERAL ENTITIES
@@ -78,7 +78,7 @@ numbers-without n (x ∷ xs) (suc i) h once =
     let other : member_number x ≢ n = λ is. absurd (omega (arith, same_number (member_number x) n is, there, once)) in
     rw (ne_eqb (member_number x) n other) (ap (λ ns. member_number x ∷ ns) (numbers-without n xs i h (omega (arith, once))))
 
-module _ (m : Configuration) (l : Linked m) (e : ℕ) (below : e < length m.facilities.values) (tx : Tx) (priority : ℤ) (rank : priority_of m.transactions.txs tx.number ≡ priority) where
+module _ (m : Configuration) (l : Linked m) (e : ℕ) (below : e < length m.entities.facilities.values) (tx : Tx) (priority : ℤ) (rank : priority_of m.transactions.txs tx.number ≡ priority) where
   abbrev newcomer : Member
   newcomer = record { tx = tx; priority = priority }
 
@@ -99,22 +99,22 @@ module _ (m : Configuration) (l : Linked m) (e : ℕ) (below : e < length m.faci
         (joined-numbers (at [] m.waits.lists e) (l.delay_lists e below) ∙ ap (behind (priority_of m.transactions.txs) tx.number) (sym (delay_list-at m e))))
 
     pub linked-waits : (new : Configuration) → new.transactions ≡ m.transactions → new.active ≡ None → new.current_events ≡ m.current_events → new.future_events ≡ m.future_events → new.waits.lists ≡ ws → new.waits.retry ≡ rs → new.assemblies ≡ m.assemblies → new.chains ≡ m.chains
-        → new.facilities ≡ m.facilities → new.storages ≡ m.storages → new.queues ≡ m.queues → new.clock ≡ m.clock → state_of new ≡ waits_for e tx.number (state_of m) → Linked new
-    linked-waits new ts a cs fs w r assemblies chs fac sto que clock is = record {
+        → new.entities ≡ m.entities → new.clock ≡ m.clock → state_of new ≡ waits_for e tx.number (state_of m) → Linked new
+    linked-waits new ts a cs fs w r assemblies chs entities clock is = record {
       active = rw a tt;
       current_events = rw (ts, cs) l.current_events;
       future_events = rw (ts, fs) l.future_events;
       retry = rw (ts, r, kept) l.retry;
       delay_lists = λ k within. rw (ts, w) (all_changed (IsRanked m.transactions) m.waits.lists ws e (behind (λ (x : Member). x.priority) newcomer) changes
-          (joined-ranked (at [] m.waits.lists e) held (l.delay_lists e below)) k (l.delay_lists k (rw fac at within)));
+          (joined-ranked (at [] m.waits.lists e) held (l.delay_lists e below)) k (l.delay_lists k (rw entities at within)));
       assemblies = rw (ts, assemblies) l.assemblies;
-      user_chains = λ c within. rw (ts, chs) (l.user_chains c (rw fac at within));
-      chained = rw (chs, fac) l.chained;
+      user_chains = λ c within. rw (ts, chs) (l.user_chains c (rw entities at within));
+      chained = rw (chs, entities) l.chained;
       blocks = rw ts l.blocks;
-      listed = rw (w, fac) (as_many m.waits.lists ws e (behind (λ (x : Member). x.priority) newcomer) (rw l.listed below) changes ∙ l.listed);
+      listed = rw (w, entities) (as_many m.waits.lists ws e (behind (λ (x : Member). x.priority) newcomer) (rw l.listed below) changes ∙ l.listed);
       sound = rw ts l.sound;
       resides = subst ResidesOnce (sym is) (resides-waits e tx.number (state_of m) (ap (option_map (λ (x : Tx). x.number)) active) l.resides);
-      timed = timed-kept m new fac sto que clock l.timed;
+      timed = rw (entities, clock) l.timed;
     }
 
   -- who is at a place of a delay list leaves it for the current events chain
@@ -144,22 +144,22 @@ module _ (m : Configuration) (l : Linked m) (e : ℕ) (below : e < length m.faci
         (numbers-without tx.number (at [] m.waits.lists e) i number-there once ∙ ap (without tx.number) (sym (delay_list-at m e))))
 
     pub linked-called : (new : Configuration) → Holds m.transactions tx → new.transactions ≡ m.transactions → new.active ≡ m.active → new.current_events.items ≡ behind (λ (x : Member). x.priority) newcomer m.current_events.items → new.future_events ≡ m.future_events → new.waits.lists ≡ ws → new.waits.retry ≡ rs → new.assemblies ≡ m.assemblies → new.chains ≡ m.chains
-        → new.facilities ≡ m.facilities → new.storages ≡ m.storages → new.queues ≡ m.queues → new.clock ≡ m.clock → state_of new ≡ called_from e tx.number (state_of m) → Linked new
-    linked-called new held ts a cs fs w r assemblies chs fac sto que clock is = record {
+        → new.entities ≡ m.entities → new.clock ≡ m.clock → state_of new ≡ called_from e tx.number (state_of m) → Linked new
+    linked-called new held ts a cs fs w r assemblies chs entities clock is = record {
       active = rw (ts, a) l.active;
       current_events = rw (ts, cs) (joined-ranked m.current_events.items held l.current_events);
       future_events = rw (ts, fs) l.future_events;
       retry = rw (ts, r, kept) l.retry;
       delay_lists = λ k within. rw (ts, w) (all_changed (IsRanked m.transactions) m.waits.lists ws e (λ xs. remove xs i) changes
-          (all_without (IsRanked m.transactions) (at [] m.waits.lists e) i (l.delay_lists e below)) k (l.delay_lists k (rw fac at within)));
+          (all_without (IsRanked m.transactions) (at [] m.waits.lists e) i (l.delay_lists e below)) k (l.delay_lists k (rw entities at within)));
       assemblies = rw (ts, assemblies) l.assemblies;
-      user_chains = λ c within. rw (ts, chs) (l.user_chains c (rw fac at within));
-      chained = rw (chs, fac) l.chained;
+      user_chains = λ c within. rw (ts, chs) (l.user_chains c (rw entities at within));
+      chained = rw (chs, entities) l.chained;
       blocks = rw ts l.blocks;
-      listed = rw (w, fac) (as_many m.waits.lists ws e (λ xs. remove xs i) (rw l.listed below) changes ∙ l.listed);
+      listed = rw (w, entities) (as_many m.waits.lists ws e (λ xs. remove xs i) (rw l.listed below) changes ∙ l.listed);
       sound = rw ts l.sound;
       resides = subst ResidesOnce (sym is) (resides-called e tx.number (state_of m) occurs-there l.resides);
-      timed = timed-kept m new fac sto que clock l.timed;
+      timed = rw (entities, clock) l.timed;
     }
 
 -- other rooms and places of walks leave a machine as it was
@@ -182,5 +182,5 @@ linked-walked m l ws lists retry = record {
   blocks = l.blocks;
   sound = l.sound;
   resides = subst ResidesOnce (sym (state-walked m ws lists retry)) l.resides;
-  timed = record { facilities = l.timed.facilities; storages = l.timed.storages; queues = l.timed.queues };
+  timed = l.timed;
 }

@@ -50,7 +50,7 @@ none-of : (bs : List Block) (f : ℕ) (s : State) (xs : List Member) → option_
 none-of bs f s [] h = refl
 none-of bs f s (x ∷ xs) h = absurd cc
 
-module _ (bs : List Block) (m : Configuration) (e : ℕ) (below : e < length m.facilities.values) where
+module _ (bs : List Block) (m : Configuration) (e : ℕ) (below : e < length m.entities.facilities.values) where
   pub handed-first : (tx : Tx) → option_map handle (slice_get (at [] m.waits.lists e) 0) ≡ Some tx
       → hand_over bs e (delay_list e (state_of m)) (state_of m) ≡ option_map_or (takes_over bs e tx.number (state_of m)) (attributes_at tx.number m.transactions.txs) (state_of m)
   handed-first tx h = ap (λ ns. hand_over bs e ns (state_of m)) (delay_list-at m e) ∙ first-of bs e (state_of m) (at [] m.waits.lists e) tx h
@@ -59,13 +59,13 @@ module _ (bs : List Block) (m : Configuration) (e : ℕ) (below : e < length m.f
   handed-none h = ap (λ ns. hand_over bs e ns (state_of m)) (delay_list-at m e) ∙ none-of bs e (state_of m) (at [] m.waits.lists e) h
 
   pub steady-looked_at : (k : ℕ) → IsSteady bs k m → (i : ℕ) (tx : Tx) → option_map handle (slice_get (at [] m.waits.lists e) i) ≡ Some tx
-      → (new : Configuration) → state_of new ≡ looked_at bs e tx.number (state_of m) → new.facilities ≡ m.facilities → IsSteady bs k new
+      → (new : Configuration) → state_of new ≡ looked_at bs e tx.number (state_of m) → new.entities.facilities ≡ m.entities.facilities → IsSteady bs k new
   steady-looked_at k s i tx there new is fac =
       let waits : 1 ≤ occurrences tx.number (delay_list e (state_of m)) = rw (delay_list-at m e) (occurs-at tx.number (at [] m.waits.lists e) i (numbered (slice_get (at [] m.waits.lists e) i) tx there)) in
       record {
         fit = rw fac s.fit;
         within = subst (λ (n : ℕ). IsWithin (length bs) n k (made_in k) (state_of new)) (sym (ap (λ (f : ByNumber Facility). length f.values) fac))
-            (subst (λ (t : State). IsWithin (length bs) (length m.facilities.values) k (made_in k) t) (sym is) (within-looked_at bs (length m.facilities.values) k (made_in k) s.fit (state_of m) s.within e tx.number waits));
+            (subst (λ (t : State). IsWithin (length bs) (length m.entities.facilities.values) k (made_in k) t) (sym is) (within-looked_at bs (length m.entities.facilities.values) k (made_in k) s.fit (state_of m) s.within e tx.number waits));
         few = s.few;
       }
 

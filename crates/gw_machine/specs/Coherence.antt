@@ -11,13 +11,14 @@ use Rattle.gw_num.specs.Table.{at}
 use Rattle.gw_transactions.specs.declared.Transaction.{Transaction}
 use Rattle.gw_transactions.specs.Transactions.{LiveTransaction, Population, attributes_at, Holds, IsSound}
 use Rattle.gw_machine.specs.Configuration.{Configuration}
+use Rattle.gw_machine.specs.EntityTables.{AreTimed}
 use Rattle.gw_step.specs.declared.placement.Placement.{Placement}
 use Rattle.gw_step.specs.declared.placement.Placement.TheVariants.{JoinsDelayList, JoinsRetryList, AwaitsSet, JoinsChain}
 use Rattle.gw_step.specs.State.{priority_of}
 use Rattle.gw_step.specs.Residence.{ResidesOnce}
 use Rattle.gw_step.specs.Numbers.{IsWithin, made_in}
 use Rattle.gw_step.specs.Operands.{BlocksFit}
-use Rattle.gw_machine.specs.View.{state_of}
+use Rattle.gw_machine.specs.View.{state_of, entity_count}
 
 -- HANDLES
 
@@ -34,12 +35,6 @@ IsHeld p e = Holds p e.tx
 abbrev pub IsHeldBy : Population → Assembly → Type 0
 IsHeldBy p a = Holds p a.first
 
--- the clock units that passed over the entities are the clock
-pub record IsTimed (m : Configuration) : Type 0 where
-  pub facilities : pos m.facilities.passed ≡ m.clock
-  pub storages : pos m.storages.passed ≡ m.clock
-  pub queues : pos m.queues.passed ≡ m.clock
-
 -- each transaction is in a block of an object, which has at most 4,096, or was in none yet, and has 0 there
 abbrev pub AreInBlocks : List (Option LiveTransaction) → Type 0
 AreInBlocks txs = (n : ℕ) → IfSome (at None txs n) (λ (t : LiveTransaction). t.attributes.current ≤ 4096)
@@ -49,18 +44,18 @@ pub record Linked (m : Configuration) : Type 0 where
   pub active : IfSome m.active (Holds m.transactions)
   pub current_events : AllByRecursion (IsRanked m.transactions) m.current_events.items
   pub future_events : AllByRecursion (IsHeld m.transactions) m.future_events.items
-  pub delay_lists : (e : ℕ) → e < length m.facilities.values → AllByRecursion (IsRanked m.transactions) (at [] m.waits.lists e)
+  pub delay_lists : (e : ℕ) → e < entity_count m → AllByRecursion (IsRanked m.transactions) (at [] m.waits.lists e)
   pub retry : AllByRecursion (IsRanked m.transactions) m.waits.retry
   pub assemblies : AllByRecursion (IsHeldBy m.transactions) m.assemblies.items
-  pub user_chains : (c : ℕ) → c < length m.facilities.values → AllByRecursion (Holds m.transactions) (at [] m.chains.lists c)
+  pub user_chains : (c : ℕ) → c < entity_count m → AllByRecursion (Holds m.transactions) (at [] m.chains.lists c)
   -- there is a delay list for each entity
-  pub listed : length m.waits.lists ≡ length m.facilities.values
+  pub listed : length m.waits.lists ≡ entity_count m
   -- and a user chain
-  pub chained : length m.chains.lists ≡ length m.facilities.values
+  pub chained : length m.chains.lists ≡ entity_count m
   pub blocks : AreInBlocks m.transactions.txs
   pub sound : IsSound m.transactions
   pub resides : ResidesOnce (state_of m)
-  pub timed : IsTimed m
+  pub timed : AreTimed m.entities m.clock
 
 -- from p to q these handles stay held, and their transactions keep their priorities; and no transaction comes past the blocks
 pub record Carries (these : ℕ → Type 0) (p q : Population) : Type 0 where
@@ -96,10 +91,10 @@ pub record CanRest (m : Configuration) (tx : Tx) : Type 0 where
 
 -- a delay list, a user chain or the retry list that a transaction joins is there, and has room; so have the assemblies where it begins one
 abbrev pub CanBePlaced : Placement → Configuration → Type 0
-CanBePlaced (JoinsDelayList e) m = (e < length m.facilities.values) × (0 < at 0 m.waits.rooms e)
+CanBePlaced (JoinsDelayList e) m = (e < entity_count m) × (0 < at 0 m.waits.rooms e)
 CanBePlaced JoinsRetryList m = 0 < m.waits.retry_room
 CanBePlaced (AwaitsSet a) m = 0 < m.assemblies.room
-CanBePlaced (JoinsChain l) m = (l.chain < length m.facilities.values) × (0 < at 0 m.chains.rooms l.chain)
+CanBePlaced (JoinsChain l) m = (l.chain < entity_count m) × (0 < at 0 m.chains.rooms l.chain)
 CanBePlaced placement m = Unit {0}
 
 -- PARAMETERS
@@ -112,12 +107,12 @@ HasSlot m p = (1 ≤ p) × (p ≤ m.last)
 
 -- a machine is one of an object: it has an entry for each of its entities
 abbrev pub IsOf : Parts → Configuration → Type 0
-IsOf p m = length m.facilities.values ≡ length p.entities
+IsOf p m = entity_count m ≡ length p.entities
 
 -- a machine of these blocks in which at most so many entries were made, and as many transactions as that many steps make
 pub record IsSteady (bs : List Block) (made : ℕ) (m : Configuration) : Type 0 where
-  pub fit : BlocksFit (length m.facilities.values) bs
-  pub within : IsWithin (length bs) (length m.facilities.values) made (made_in made) (state_of m)
+  pub fit : BlocksFit (entity_count m) bs
+  pub within : IsWithin (length bs) (entity_count m) made (made_in made) (state_of m)
   pub few : made ≤ 2 ^ 41
 
 -- a running machine of these blocks

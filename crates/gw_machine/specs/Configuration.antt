@@ -7,13 +7,9 @@ use Rattle.gw_user_chains.specs.Linked.{Linked as UserChains}
 use Rattle.gw_members.specs.declared.tx.Tx.{Tx}
 use Rattle.gw_members.specs.declared.tx.Member.{Member}
 use Rattle.gw_members.specs.declared.tx.Event.{Event}
-use Rattle.gw_entities.specs.declared.facilities.Facility.{Facility}
-use Rattle.gw_entities.specs.declared.storages.Storage.{Storage}
-use Rattle.gw_entities.specs.declared.contents.Contents.{Contents}
-use Rattle.gw_entities.specs.Numbered.{ByNumber}
-use Rattle.gw_entities.specs.Tabulation.{Tabulation}
 use Rattle.gw_step.specs.declared.ends.End.{End}
 use Rattle.gw_transactions.specs.Transactions.{Population}
+use Rattle.gw_machine.specs.declared.entity_tables.EntityTables.{EntityTables}
 
 -- a machine by its parts; members of its lists are given by their handles
 pub record Configuration : Type 0 where
@@ -38,12 +34,7 @@ pub record Configuration : Type 0 where
   pub waits : Waiting
   pub assemblies : Assembling
   pub chains : UserChains
-  pub facilities : ByNumber Facility
-  pub storages : ByNumber Storage
-  pub queues : ByNumber Contents
-  pub switches : List Bool
-  pub savevalues : List ℤ
-  pub tables : List Tabulation
+  pub entities : EntityTables
   -- the entries so far, for each block
   pub entries : List ℕ
   -- the named end, if one stands

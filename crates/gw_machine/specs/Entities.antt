@@ -7,6 +7,7 @@ use Rattle.gw_entities.specs.declared.storages.Storage.{Storage}
 use Rattle.gw_entities.specs.Facility.{idle, seized}
 use Rattle.gw_entities.specs.Storage.{vacant}
 use Rattle.gw_machine.specs.Configuration.{Configuration}
+use Rattle.gw_machine.specs.View.{entity_count}
 use Rattle.gw_num.specs.Table.{at}
 use Rattle.gw_step.specs.Changes.{called_from, enters_and_falls, facility, put_facility, put_queue, put_storage, put_switch, queue, storage, switch}
 use Rattle.gw_step.specs.State.{State}
@@ -27,15 +28,15 @@ switch_by change l s = put_switch l (change (switch l s)) s
 
 -- there is a facility's and a storage's entry of this number
 abbrev pub HasStorage : ℕ → Configuration → Type 0
-HasStorage e m = (e < length m.facilities.values) × (e < length m.storages.values)
+HasStorage e m = (e < entity_count m) × (e < length m.entities.storages.values)
 
 -- so many more entries of a storage can be counted
 abbrev pub CanCountEntries : Units → Configuration → Type 0
-CanCountEntries u m = (at (vacant 0) m.storages.values u.entity).contents.entries + u.number ≤ 2 ^ 62
+CanCountEntries u m = (at (vacant 0) m.entities.storages.values u.entity).contents.entries + u.number ≤ 2 ^ 62
 
 -- one more owner of a facility can be counted
 abbrev pub CanCountOwner : ℕ → Configuration → Type 0
-CanCountOwner f m = (at idle m.facilities.values f).entries < 2 ^ 62
+CanCountOwner f m = (at idle m.entities.facilities.values f).entries < 2 ^ 62
 
 -- at most as many units are inside as have entered
 abbrev pub IsWithinEntries : Contents → Type 0

@@ -1,5 +1,5 @@
 -- Evaluating operands: for whom, what may be read of a machine, and what is answered.
-use Rattle.std.specs.Prelude.{◌≡◌, ℕ, ◌≤◌, ◌^◌, ℤ, pos, ◌≤ℤ◌, sum, List, length, Option, Some, None, IfSome, Result, Ok, Err}
+use Rattle.std.specs.Prelude.{ℕ, ◌≤◌, ◌^◌, ℤ, pos, ◌≤ℤ◌, sum, List, Option, Some, None, IfSome, Result, Ok, Err}
 use Rattle.gw_members.specs.declared.tx.Tx.{Tx}
 use Rattle.gw_operands.specs.declared.ends.PlusEnd.{PlusEnd}
 use Rattle.gw_operands.specs.Environment.{Environment}
@@ -8,11 +8,13 @@ use Rattle.gw_operands.specs.Values.{Evaluation, Value, Fails}
 use Rattle.gw_transactions.specs.declared.Transaction.{Transaction}
 use Rattle.gw_transactions.specs.Parameters.{no_parameters}
 use Rattle.gw_transactions.specs.Transactions.{Holds}
+use Rattle.gw_step.specs.Numbers.{AreWhole}
 use Rattle.gw_step.specs.Outcome.{Outcome, Gives, EndsBy, ◌>>=◌}
 use Rattle.gw_step.specs.State.{State}
 use Rattle.gw_step.specs.Times.{environment, parameters_of}
 use Rattle.gw_machine.specs.Configuration.{Configuration}
-use Rattle.gw_machine.specs.View.{state_of}
+use Rattle.gw_machine.specs.EntityTables.{states_of}
+use Rattle.gw_machine.specs.View.{state_of, entity_count}
 use Rattle.gw_machine.specs.declared.values.Subject.{Subject}
 
 -- FOR WHOM
@@ -38,11 +40,7 @@ environment_in subject m = environment_for subject (state_of m)
 
 -- each table of a machine has an entry for each entity, and an i64 holds the clock and the counts
 pub record IsReadable (m : Configuration) : Type 0 where
-  pub storages : length m.storages.values ≡ length m.facilities.values
-  pub queues : length m.queues.values ≡ length m.facilities.values
-  pub switches : length m.switches ≡ length m.facilities.values
-  pub savevalues : length m.savevalues ≡ length m.facilities.values
-  pub tables : length m.tables ≡ length m.facilities.values
+  pub entities : AreWhole (entity_count m) (states_of m.entities)
   pub entries : sum m.entries ≤ 2 ^ 60
   pub clock : pos 0 ≤ℤ m.clock
 

@@ -1,7 +1,8 @@
 -- What a call on a machine changes: all else stays.
-use Rattle.std.specs.Prelude.{◌≡◌, ℕ, ◌+◌, ◌≤◌, length}
+use Rattle.std.specs.Prelude.{◌≡◌, ℕ, ◌+◌, ◌≤◌}
 use Rattle.gw_members.specs.Lists.{LosesRoom}
 use Rattle.gw_machine.specs.Configuration.{Configuration}
+use Rattle.gw_machine.specs.View.{entity_count}
 
 -- who may move now, and who waits for a later time
 abbrev pub OnlyEventsChange : Configuration → Configuration → Type 0
@@ -42,9 +43,14 @@ abbrev pub OnlyEntryIsMade : Configuration → Configuration → Type 0
 OnlyEntryIsMade old new =
     new ≡ record old { stir = new.stir; entries = new.entries; transactions = new.transactions }
 
+-- the entities
+abbrev pub OnlyEntitiesChange : Configuration → Configuration → Type 0
+OnlyEntitiesChange old new = new ≡ record old { entities = new.entities }
+
 -- steps, facilities and the slots of transactions stay
 abbrev pub KeepsFacilities : Configuration → Configuration → Type 0
-KeepsFacilities old new = (new.steps ≡ old.steps) × (new.facilities ≡ old.facilities) × (new.last ≡ old.last)
+KeepsFacilities old new =
+    (new.steps ≡ old.steps) × (new.entities.facilities ≡ old.entities.facilities) × (new.last ≡ old.last)
 
 -- no delay list, nor the retry list, has less room than before
 abbrev pub KeepsRoomToWait : Configuration → Configuration → Type 0
@@ -55,6 +61,6 @@ KeepsRoomToWait old new =
 abbrev pub LosesRoomToMove : ℕ → Configuration → Configuration → Type 0
 LosesRoomToMove n old new = old.current_events.room ≤ new.current_events.room + n
 
--- the table of facilities is as long as before
-abbrev pub HasAsManyFacilities : Configuration → Configuration → Type 0
-HasAsManyFacilities old new = length new.facilities.values ≡ length old.facilities.values
+-- there are as many entities as before
+abbrev pub HasAsManyEntities : Configuration → Configuration → Type 0
+HasAsManyEntities old new = entity_count new ≡ entity_count old

@@ -1,4 +1,5 @@
 -- HOW THE MACHINE KEEPS A STATE
+pub mod EntityTables
 pub mod Configuration
 pub mod View
 pub mod Coherence
@@ -13,4 +14,3 @@ pub mod Frames
 pub mod Entities
 pub mod Evaluating
 pub mod Spans
-pub mod AtStart

@@ -22,12 +22,7 @@ shown m = record {
   waits = m.waits;
   assemblies = m.assemblies;
   chains = m.chains;
-  facilities = m.facilities;
-  storages = m.storages;
-  queues = m.queues;
-  switches = m.switches;
-  savevalues = m.savevalues;
-  tables = m.tables;
+  entities = m.entities;
   entries = m.entries.items;
   ended = m.ended;
 }

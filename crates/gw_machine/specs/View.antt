@@ -1,11 +1,12 @@
 -- The simulation state that a machine is in: it holds handles, and the state has their numbers.
-use Rattle.std.specs.Prelude.{ℕ, map, option_map}
+use Rattle.std.specs.Prelude.{ℕ, map, length, option_map}
 use Rattle.gw_members.specs.declared.tx.Tx.{Tx}
 use Rattle.gw_members.specs.declared.tx.Member.{Member}
 use Rattle.gw_members.specs.declared.tx.Event.{Event}
 use Rattle.gw_assemblies.specs.declared.assemblies.Assembly.{Assembly as HeldAssembly}
 use Rattle.gw_machine.specs.Configuration.{Configuration}
-use Rattle.gw_step.specs.State.{FutureEvent, Assembly, Lists, EntityStates, State}
+use Rattle.gw_machine.specs.EntityTables.{states_of}
+use Rattle.gw_step.specs.State.{FutureEvent, Assembly, Lists, State}
 
 -- the number of a transaction, by its handle
 abbrev pub handle_number : Tx → ℕ
@@ -35,10 +36,6 @@ lists_of m = record {
   user_chains = map (map handle_number) m.chains.lists;
 }
 
--- the entities as they are now
-abbrev pub entities_of : Configuration → EntityStates
-entities_of m = record { facilities = m.facilities.values; storages = m.storages.values; queues = m.queues.values; switches = m.switches; savevalues = m.savevalues; tables = m.tables }
-
 -- the whole state
 abbrev pub state_of : Configuration → State
 state_of m = record {
@@ -50,7 +47,11 @@ state_of m = record {
   scheduled = m.scheduled;
   transactions = m.transactions.txs;
   lists = lists_of m;
-  entities = entities_of m;
+  entities = states_of m.entities;
   entries = m.entries;
   ended = m.ended;
 }
+
+-- how many entities there are: each table has an entry for each
+abbrev pub entity_count : Configuration → ℕ
+entity_count m = length m.entities.facilities.values

@@ -52,9 +52,7 @@ impl Machine {
             time,
         );
         let passed = time.abs_diff(self.clock);
-        self.facilities.pass_time(passed);
-        self.storages.pass_time(passed);
-        self.queues.pass_time(passed);
+        self.entities.pass_time(passed);
         self.clock = time;
     }
 

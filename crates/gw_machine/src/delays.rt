@@ -4,7 +4,7 @@ ghost use Rattle.std.specs.Prelude.{[], ◌≡◌, ◌≤◌, ◌<◌, ◌+◌, 
 ghost use Rattle.gw_num.specs.Table.{at};
 ghost use Rattle.gw_step.specs.State.{priority_of};
 ghost use Rattle.gw_step.specs.Changes as model;
-ghost use Rattle.gw_machine.specs.View.{state_of};
+ghost use Rattle.gw_machine.specs.View.{state_of, entity_count};
 ghost use Rattle.gw_machine.specs.Leaving.{waiter_at, waiter_come_to, LosesWaiter};
 ghost use Rattle.gw_machine.specs.Frames.{OnlyWaitersMove};
 
@@ -14,7 +14,7 @@ use gw_members::{Memory, Tx};
 impl Machine {
     /// How many wait on the delay list of an entity.
     pub fn waiting(&self, entity: u16) -> usize
-        requires entity { entity < length self.now.facilities.values }
+        requires entity { entity < entity_count self.now }
         ensures { result ≡ length (at [] self.now.waits.lists entity) }
     {
         self.waits.waiting(entity)
@@ -32,7 +32,7 @@ impl Machine {
     /// The transaction at this place of the delay list of an entity is called: it joins the current events chain, behind
     /// its peers.
     pub fn call(&mut self, entity: u16, place: usize, tx: Tx, priority: i32)
-        requires entity { entity < length self.old.facilities.values }
+        requires entity { entity < entity_count self.old }
         requires there { waiter_at entity place self.old ≡ Some tx }
         requires rank { priority_of self.old.transactions.txs tx.number ≡ priority }
         requires room { 0 < self.old.current_events.room }
@@ -51,7 +51,7 @@ impl Machine {
     /// The transaction to which the walk over the delay list of an entity has come is called: it joins the current events
     /// chain, behind its peers.
     pub fn call_current(&mut self, entity: u16, tx: Tx, priority: i32)
-        requires entity { entity < length self.old.facilities.values }
+        requires entity { entity < entity_count self.old }
         requires there { waiter_come_to entity self.old ≡ Some tx }
         requires rank { priority_of self.old.transactions.txs tx.number ≡ priority }
         requires room { 0 < self.old.current_events.room }
@@ -70,7 +70,7 @@ impl Machine {
 
     /// A walk over the delay list of an entity begins, at its first.
     pub fn start_walk(&mut self, entity: u16)
-        requires entity { entity < length self.old.facilities.values }
+        requires entity { entity < entity_count self.old }
         ensures state { state_of self.new ≡ state_of self.old }
         ensures lists { self.new.waits.lists ≡ self.old.waits.lists }
         ensures place { at 0 self.new.waits.places entity ≡ 0 }
@@ -81,7 +81,7 @@ impl Machine {
 
     /// The walk over the delay list of an entity goes on behind the one to which it has come.
     pub fn pass_waiter(&mut self, entity: u16)
-        requires entity { entity < length self.old.facilities.values }
+        requires entity { entity < entity_count self.old }
         requires there { at 0 self.old.waits.places entity
             < length (at [] self.old.waits.lists entity) }
         ensures state { state_of self.new ≡ state_of self.old }

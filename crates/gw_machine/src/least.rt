@@ -6,7 +6,7 @@ ghost use Rattle.gw_step.specs.Residence.{occurrences};
 ghost use Rattle.gw_step.specs.Blocks as model;
 ghost use Rattle.gw_machine.specs.Admission.{AdmitsNobody, AllAskInVain};
 ghost use Rattle.gw_machine.specs.Coherence.{IsSteady};
-ghost use Rattle.gw_machine.specs.View.{state_of};
+ghost use Rattle.gw_machine.specs.View.{state_of, entity_count};
 ghost use Rattle.gw_machine.specs.Wants.{IsKnown, IsLeast, lesser as lesser_of, nexts, wanting};
 
 use crate::machine::{Machine, entry_or_none};
@@ -69,7 +69,7 @@ impl Machine {
 
     /// Those who wait for a storage, by the blocks that they want to enter; nothing where there is no memory for it.
     fn counted_wants(&self, e: u16) -> Vec<Want>
-        requires { e < length self.now.facilities.values }
+        requires { e < entity_count self.now }
         ensures { IsKnown result.items e (state_of self.now) }
     {
         let mut wants = Vec::new(self.wants.alloc());
@@ -86,7 +86,7 @@ impl Machine {
 
     /// Which blocks those who wait for a storage want to enter is known from now on, if many wait, and there is memory.
     fn count_wants(&mut self, e: u16)
-        requires { e < length self.old.facilities.values }
+        requires { e < entity_count self.old }
         ensures { self.new ≡ self.old }
     {
         if self.waits.waiting(e) < MANY {
@@ -99,7 +99,7 @@ impl Machine {
     /// Whether the least units are free that those ask who wait for a storage, if it is known.
     fn is_least_free(&self, blocks: &[Block], e: u16) -> Option<bool>
         requires steady { IsSteady blocks.now (self.now.steps + 1) self.now }
-        requires there { e < length self.now.facilities.values }
+        requires there { e < entity_count self.now }
         ensures { result ≡ Some false → AllAskInVain blocks.now e (state_of self.now) }
     {
         match self.least_want(blocks, e) {
@@ -112,7 +112,7 @@ impl Machine {
     /// Whether anybody who waits for a storage may be admitted, as far as it is known with no look at them.
     pub(crate) fn may_admit_more(&self, blocks: &[Block], e: u16) -> bool
         requires steady { IsSteady blocks.now (self.now.steps + 1) self.now }
-        requires there { e < length self.now.facilities.values }
+        requires there { e < entity_count self.now }
         ensures { result ≡ false → AllAskInVain blocks.now e (state_of self.now) }
     {
         match self.is_least_free(blocks, e) {
@@ -125,7 +125,7 @@ impl Machine {
     /// enter, it is from now on.
     pub(crate) fn may_admit(&mut self, blocks: &[Block], e: u16) -> bool
         requires steady { IsSteady blocks.now (self.old.steps + 1) self.old }
-        requires there { e < length self.old.facilities.values }
+        requires there { e < entity_count self.old }
         ensures vain { result ≡ false → AdmitsNobody blocks.now e (state_of self.old) }
         ensures frame { self.new ≡ self.old }
     {

@@ -7,6 +7,7 @@ mod copies;
 mod delays;
 mod ends;
 mod entities;
+mod entity_tables;
 mod least;
 mod linking;
 mod machine;
@@ -20,6 +21,7 @@ mod values;
 mod wants;
 
 pub use ends::{end_by, end_by_fault};
+pub use entity_tables::EntityTables;
 pub use machine::{Machine, Made};
 pub use times::Span;
 pub use transfers::block_of;

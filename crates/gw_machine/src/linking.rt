@@ -4,7 +4,7 @@ ghost use Rattle.std.specs.Prelude.{◌≡◌, ◌≤◌, ◌<◌, ◌+◌, ◌^
 ghost use Rattle.gw_num.specs.Table.{at};
 ghost use Rattle.gw_step.specs.State.{user_chain};
 ghost use Rattle.gw_step.specs.Blocks as model;
-ghost use Rattle.gw_machine.specs.View.{state_of};
+ghost use Rattle.gw_machine.specs.View.{state_of, entity_count};
 ghost use Rattle.gw_machine.specs.Frames.{OnlyMembersLeave};
 
 use crate::machine::Machine;
@@ -15,7 +15,7 @@ impl Machine {
     ///
     /// It fails for want of memory.
     pub fn reserve_link(&mut self, chain: u16) -> Result<(), Memory>
-        requires chain { chain < length self.old.facilities.values }
+        requires chain { chain < entity_count self.old }
         ensures state { state_of self.new ≡ state_of self.old }
         ensures room { OnOk result (0 < at 0 self.new.chains.rooms chain) }
         ensures frame { self.new ≡ record self.old { chains = self.new.chains } }
@@ -25,7 +25,7 @@ impl Machine {
 
     /// How many members a user chain has.
     pub fn members(&self, chain: u16) -> usize
-        requires chain { chain < length self.now.facilities.values }
+        requires chain { chain < entity_count self.now }
         ensures value { result ≡ length (user_chain chain (state_of self.now)) }
         ensures few { result ≤ 2 ^ 62 }
     {
@@ -35,7 +35,7 @@ impl Machine {
     /// The first member of a user chain, if there is one, leaves it to go to a block, and joins the current events chain,
     /// behind its peers; it enters no block, and its current one stays.
     fn unlink_first(&mut self, chain: u16, target: u16)
-        requires chain { chain < length self.old.facilities.values }
+        requires chain { chain < entity_count self.old }
         requires room { 0 < self.old.current_events.room }
         ensures state { state_of self.new ≡
             model.first_unlinked chain target (user_chain chain (state_of self.old))
@@ -55,7 +55,7 @@ impl Machine {
     /// So many members of a user chain, as far as it has them, leave it to go to a block, one after the other from the
     /// front, and join the current events chain, each behind its peers. There is room.
     pub fn unlink(&mut self, chain: u16, target: u16, count: usize)
-        requires chain { chain < length self.old.facilities.values }
+        requires chain { chain < entity_count self.old }
         requires room { count ≤ self.old.current_events.room }
         ensures state { state_of self.new ≡ model.unlinked count chain target (state_of self.old) }
         ensures room { self.old.current_events.room ≤ self.new.current_events.room + count }

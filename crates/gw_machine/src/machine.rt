@@ -16,10 +16,10 @@ ghost use Rattle.gw_transactions.specs.Parameters.{none_of};
 ghost use Rattle.gw_machine.specs.Coherence.{Carries, Every, HasSlot};
 ghost use Rattle.gw_machine.specs.Frames.{OnlyArrivalFits, OnlyArrivalComes, OnlyEntryIsMade};
 
+use crate::entity_tables::EntityTables;
 use crate::wants::Wants;
 use gw_assemblies::Assemblies;
 use gw_chains::{Cec, Fec, Waits};
-use gw_entities::{Facilities, Queues, Savevalues, Storages, Switches, Tables};
 use gw_members::{Memory, Tx};
 use gw_num::Stream;
 use gw_step::End;
@@ -73,18 +73,8 @@ pub struct Machine {
     pub(crate) assemblies: Assemblies,
     /// Who is on a user chain, each chain by its number as an entity.
     pub(crate) chains: UserChains,
-    /// The facilities, each by its number as an entity.
-    pub(crate) facilities: Facilities,
-    /// The storages, each by its number as an entity.
-    pub(crate) storages: Storages,
-    /// The queues, each by its number as an entity.
-    pub(crate) queues: Queues,
-    /// The logic switches, each by its number as an entity.
-    pub(crate) switches: Switches,
-    /// The savevalues, each by its number as an entity.
-    pub(crate) savevalues: Savevalues,
-    /// The tables, each by its number as an entity.
-    pub(crate) tables: Tables,
+    /// The facilities, storages and whatever else blocks name by a number as an entity.
+    pub(crate) entities: EntityTables,
     /// The entries so far, for each block.
     pub(crate) entries: Vec<u64>,
     /// The named end, if one stands.

@@ -8,12 +8,13 @@ ghost use Rattle.gw_members.specs.Chain.{first};
 ghost use Rattle.gw_members.specs.declared.tx.Event.{Event};
 ghost use Rattle.gw_step.specs.Residence.{ResidesOnce};
 ghost use Rattle.gw_transactions.specs.Transactions.{Holds, attributes_at, here_count, parameter_at};
+ghost use Rattle.gw_machine.specs.EntityTables.{AreTimed};
 ghost use Rattle.gw_machine.specs.View.{state_of};
 ghost use Rattle.gw_machine.specs.Coherence.{IsHeld, HasSlot};
 
+use crate::entity_tables::EntityTables;
 use crate::machine::Machine;
 use gw_chains::{Cec, Fec, Waits};
-use gw_entities::{Facilities, Queues, Savevalues, Storages, Switches, Tables};
 use gw_members::Tx;
 use gw_num::Stream;
 use gw_step::End;
@@ -168,48 +169,11 @@ impl Machine {
 
     // ENTITIES
 
-    /// The facilities, each by its number as an entity. The clock units that passed over them are the clock.
-    pub fn facilities(&self) -> &Facilities
-        ensures facilities { result.now ≡ self.now.facilities }
-        ensures clock { pos result.now.passed ≡ self.now.clock }
+    /// The entities, a table for each kind. The clock units that passed over them are the clock.
+    pub fn entities(&self) -> &EntityTables
+        ensures entities { result.now ≡ self.now.entities }
+        ensures timed { AreTimed result.now self.now.clock }
     {
-        &self.facilities
-    }
-
-    /// The storages, each by its number as an entity. The clock units that passed over them are the clock.
-    pub fn storages(&self) -> &Storages
-        ensures storages { result.now ≡ self.now.storages }
-        ensures clock { pos result.now.passed ≡ self.now.clock }
-    {
-        &self.storages
-    }
-
-    /// The queues, each by its number as an entity. The clock units that passed over them are the clock.
-    pub fn queues(&self) -> &Queues
-        ensures queues { result.now ≡ self.now.queues }
-        ensures clock { pos result.now.passed ≡ self.now.clock }
-    {
-        &self.queues
-    }
-
-    /// The logic switches, each by its number as an entity.
-    pub fn switches(&self) -> &Switches
-        ensures { result.now ≡ self.now.switches }
-    {
-        &self.switches
-    }
-
-    /// The savevalues, each by its number as an entity.
-    pub fn savevalues(&self) -> &Savevalues
-        ensures { result.now ≡ self.now.savevalues }
-    {
-        &self.savevalues
-    }
-
-    /// The tables, each by its number as an entity.
-    pub fn tables(&self) -> &Tables
-        ensures { result.now ≡ self.now.tables }
-    {
-        &self.tables
+        &self.entities
     }
 }

@@ -5,7 +5,7 @@ ghost use Rattle.gw_num.specs.Table.{at};
 ghost use Rattle.gw_step.specs.State.{priority_of};
 ghost use Rattle.gw_step.specs.Changes as model;
 ghost use Rattle.gw_step.specs.Placing.{woken_if_stirred, placed};
-ghost use Rattle.gw_machine.specs.View.{state_of};
+ghost use Rattle.gw_machine.specs.View.{state_of, entity_count};
 ghost use Rattle.gw_machine.specs.Leaving.{BecomesBy, BecomesOnOk};
 ghost use Rattle.gw_machine.specs.Coherence.{HasRoom, CanRest, CanBePlaced};
 ghost use Rattle.gw_machine.specs.Frames.{OnlyEventsChange, OnlyWaking, KeepsRoomToWait, LosesRoomToMove};
@@ -67,7 +67,7 @@ impl Machine {
 
     /// Makes room for one more on the delay list of an entity.
     fn reserve_wait(&mut self, entity: u16) -> Result<(), Memory>
-        requires entity { entity < length self.old.facilities.values }
+        requires entity { entity < entity_count self.old }
         ensures state { state_of self.new ≡ state_of self.old }
         ensures retry { self.new.waits.retry ≡ self.old.waits.retry }
         ensures room { OnOk result (0 < at 0 self.new.waits.rooms entity) }
@@ -133,7 +133,7 @@ impl Machine {
     fn join_delay_list(&mut self, entity: u16, tx: Tx, priority: i32)
         requires rests { CanRest self.old tx }
         requires rank { priority_of self.old.transactions.txs tx.number ≡ priority }
-        requires entity { entity < length self.old.facilities.values }
+        requires entity { entity < entity_count self.old }
         requires room { 0 < at 0 self.old.waits.rooms entity }
         ensures { BecomesBy (model.waits_for entity tx.number) self.old self.new }
     {
@@ -194,7 +194,7 @@ impl Machine {
     /// The active transaction joins a user chain, at its end or at its front.
     fn join_chain(&mut self, tx: Tx, link: Link)
         requires rests { CanRest self.old tx }
-        requires chain { link.chain < length self.old.facilities.values }
+        requires chain { link.chain < entity_count self.old }
         requires room { 0 < at 0 self.old.chains.rooms link.chain }
         ensures { BecomesBy (model.joins_chain tx.number link) self.old self.new }
     {
@@ -286,7 +286,7 @@ impl Machine {
     pub fn wait_for(&mut self, entity: u16, tx: Tx, priority: i32) -> Result<(), Memory>
         requires rests { CanRest self.old tx }
         requires rank { priority_of self.old.transactions.txs tx.number ≡ priority }
-        requires entity { entity < length self.old.facilities.values }
+        requires entity { entity < entity_count self.old }
         ensures { BecomesOnOk result (placed tx.number (Placement.JoinsDelayList entity))
             self.old self.new }
     {

@@ -7,20 +7,19 @@ ghost use Rattle.gw_rules.specs.Accepted.{Checked};
 ghost use Rattle.gw_step.specs.Operands.{BlocksFit, MayDraw};
 ghost use Rattle.gw_step.specs.Start as model;
 ghost use Rattle.gw_step.specs.Times.{environment_of_next};
-ghost use Rattle.gw_machine.specs.AtStart.{AreAtStart};
 ghost use Rattle.gw_machine.specs.View.{state_of};
 ghost use Rattle.gw_machine.specs.Evaluating.{IsReadable, drawn};
 ghost use Rattle.gw_machine.specs.Coherence.{IsOf};
 ghost use Rattle.gw_machine.specs.Leaving.{Schedules, HasArrivedBelow};
 ghost use Rattle.gw_machine.specs.Slots.{greatest_set};
 
+use crate::entity_tables::EntityTables;
 use crate::machine::Machine;
 use crate::slots::greatest_set;
 use crate::wants::Wants;
 use gw_assemblies::Assemblies;
 use gw_blocks::{Block, Generate};
 use gw_chains::{Cec, Fec, Waits};
-use gw_entities::{Facilities, Queues, Savevalues, Storages, Switches, Tables};
 use gw_members::Memory;
 use gw_num::Stream;
 use gw_object::Object;
@@ -35,31 +34,6 @@ fn zeros(alloc: Global, n: usize) -> Result<Vec<u64>, Memory>
     ensures { IfOk result (λ v. v.items ≡ replicate n 0) }
 {
     vec![in alloc; 0u64; n]
-}
-
-/// The entities of a machine, a table for each kind of what is kept of them.
-#[derive(Drop)]
-struct EntityTables {
-    facilities: Facilities,
-    storages: Storages,
-    queues: Queues,
-    switches: Switches,
-    savevalues: Savevalues,
-    tables: Tables,
-}
-
-/// The entities of an object as they are at first. It fails for want of memory.
-fn entity_tables(alloc: Global, object: &Object) -> Result<EntityTables, Memory>
-    ensures { IfOk result (AreAtStart object.now.entities) }
-{
-    Ok(EntityTables {
-        facilities: Facilities::new(alloc, object)?,
-        storages: Storages::new(alloc, object)?,
-        queues: Queues::new(alloc, object)?,
-        switches: Switches::new(alloc, object)?,
-        savevalues: Savevalues::new(alloc, object)?,
-        tables: Tables::new(alloc, object)?,
-    })
 }
 
 impl Machine {
@@ -82,11 +56,11 @@ impl Machine {
         let blocks = object.parts().blocks.as_slice();
         let scheduled = zeros(alloc, blocks.len() + 1)?;
         let entries = zeros(alloc, blocks.len() + 1)?;
-        let tables = entity_tables(alloc, object)?;
+        let entities = EntityTables::new(alloc, object)?;
         let transactions = Transactions::new(alloc, greatest_set(blocks))?;
-        let entities = object.parts().entities.as_slice().len();
-        let waits = Waits::new(alloc, entities)?;
-        let chains = UserChains::new(alloc, entities)?;
+        let count_of_entities = object.parts().entities.as_slice().len();
+        let waits = Waits::new(alloc, count_of_entities)?;
+        let chains = UserChains::new(alloc, count_of_entities)?;
         Ok(Machine {
             clock: 0,
             count: count as i64,
@@ -101,12 +75,7 @@ impl Machine {
             waits,
             assemblies: Assemblies::new(alloc),
             chains,
-            facilities: tables.facilities,
-            storages: tables.storages,
-            queues: tables.queues,
-            switches: tables.switches,
-            savevalues: tables.savevalues,
-            tables: tables.tables,
+            entities,
             entries,
             ended,
             wants: Wants::new(alloc),
@@ -157,7 +126,7 @@ impl Machine {
             (model.first_arrival verified.now number block.now (state_of self.old))
             (state_of self.new)) }
         ensures readable { OnOk result (IsReadable self.new) }
-        ensures entities { OnOk result (self.new.facilities ≡ self.old.facilities) }
+        ensures entities { OnOk result (self.new.entities ≡ self.old.entities) }
         ensures scheduled { OnOk result ((length self.new.scheduled ≡ length self.old.scheduled) ×
             (sum self.new.scheduled ≤ sum self.old.scheduled + 1)) }
         ensures made_by { OnOk result

@@ -14,7 +14,7 @@ ghost use Rattle.gw_step.specs.Residence.{occurrences};
 ghost use Rattle.gw_machine.specs.Leaving.{BecomesBy, Moves, waiter_at, waiter_come_to};
 ghost use Rattle.gw_machine.specs.Admission.{AsksInVain, AdmitsNobody};
 ghost use Rattle.gw_step.specs.Blocks as model;
-ghost use Rattle.gw_machine.specs.View.{lists_of, state_of};
+ghost use Rattle.gw_machine.specs.View.{lists_of, state_of, entity_count};
 ghost use Rattle.gw_machine.specs.Coherence.{IsSteady};
 ghost use Rattle.gw_machine.specs.Entities.{HasStorage, CanCountEntries, CanCountOwner, handed_over_to};
 ghost use Rattle.gw_machine.specs.Frames.{KeepsFacilities, OnlyEntryIsMade};
@@ -58,7 +58,7 @@ impl Machine {
     /// A facility that nobody owns is handed over to the first of its delay list, if somebody waits.
     pub fn hand_over(&mut self, blocks: &[Block], f: u16)
         requires steady { IsSteady blocks.now (self.old.steps + 1) self.old }
-        requires there { f < length self.old.facilities.values }
+        requires there { f < length self.old.entities.facilities.values }
         requires idle { is_idle_now (facility f (state_of self.old)) ≡ true }
         requires room { 0 < self.old.current_events.room }
         ensures { BecomesBy (λ s. model.hand_over blocks.now f (delay_list f s) s)
@@ -72,7 +72,7 @@ impl Machine {
     /// A facility that nobody owns is handed over to the first of its delay list, where that waits at its SEIZE.
     fn hand_over_to(&mut self, blocks: &[Block], f: u16, tx: Tx)
         requires steady { IsSteady blocks.now (self.old.steps + 1) self.old }
-        requires there { f < length self.old.facilities.values }
+        requires there { f < length self.old.entities.facilities.values }
         requires idle { is_idle_now (facility f (state_of self.old)) ≡ true }
         requires first { waiter_at f 0 self.old ≡ Some tx }
         requires room { 0 < self.old.current_events.room }
@@ -87,7 +87,7 @@ impl Machine {
 
     /// The first of the delay list of an idle facility owns it at once, in its SEIZE block.
     fn take_over(&mut self, f: u16, tx: Tx, transaction: Transaction)
-        requires there { f < length self.old.facilities.values }
+        requires there { f < length self.old.entities.facilities.values }
         requires idle { is_idle_now (facility f (state_of self.old)) ≡ true }
         requires first { waiter_at f 0 self.old ≡ Some tx }
         requires held { Holds self.old.transactions tx }
@@ -105,20 +105,20 @@ impl Machine {
 
     /// Whether units of a storage are free.
     pub(crate) fn has_free(&self, u: Units) -> bool
-        requires there { u.entity < length self.now.storages.values }
+        requires there { u.entity < length self.now.entities.storages.values }
         requires few { CanCountEntries u self.now }
         ensures { result ≡ has_room u.number (storage u.entity (state_of self.now)) }
     {
-        let storage = self.storages.get(u.entity);
+        let storage = self.entities.storages.get(u.entity);
         storage.contents.content + u64::from(u.number) <= u64::from(storage.capacity)
     }
 
     /// Whether no unit of a storage is free.
     fn has_nothing_free(&self, e: u16) -> bool
-        requires { e < length self.now.storages.values }
+        requires { e < length self.now.entities.storages.values }
         ensures { result ≡ model.is_full (storage e (state_of self.now)) }
     {
-        let storage = self.storages.get(e);
+        let storage = self.entities.storages.get(e);
         storage.contents.content >= u64::from(storage.capacity)
     }
 
@@ -140,7 +140,7 @@ impl Machine {
     /// Whether a block is an ENTER of a storage, and the units that it asks for are free.
     fn has_asked(&self, blocks: &[Block], e: u16, next: u16) -> bool
         requires steady { IsSteady blocks.now (self.now.steps + 1) self.now }
-        requires there { e < length self.now.facilities.values }
+        requires there { e < entity_count self.now }
         ensures { result ≡ false → AsksInVain blocks.now e next (state_of self.now) }
     {
         match asked(e, block_of(blocks, next)) {
@@ -153,7 +153,7 @@ impl Machine {
     /// another it looks at the block once.
     pub(crate) fn can_admit(&self, blocks: &[Block], e: u16) -> bool
         requires steady { IsSteady blocks.now (self.now.steps + 1) self.now }
-        requires there { e < length self.now.facilities.values }
+        requires there { e < entity_count self.now }
         ensures { result ≡ false → AdmitsNobody blocks.now e (state_of self.now) }
     {
         let mut refused = 0;
@@ -174,7 +174,7 @@ impl Machine {
     #[inline(never)]
     pub fn admit(&mut self, blocks: &[Block], e: u16)
         requires steady { IsSteady blocks.now (self.old.steps + 1) self.old }
-        requires there { e < length self.old.facilities.values }
+        requires there { e < entity_count self.old }
         requires room { length (at [] self.old.waits.lists e) ≤ self.old.current_events.room }
         ensures { BecomesBy (λ s. model.admission blocks.now e (delay_list e s) s)
             self.old self.new }
@@ -195,7 +195,7 @@ impl Machine {
     /// The transaction to which the walk over the delay list of a storage has come enters, if its units are free.
     fn admit_one(&mut self, blocks: &[Block], e: u16, tx: Tx) -> bool
         requires steady { IsSteady blocks.now (self.old.steps + 1) self.old }
-        requires there { e < length self.old.facilities.values }
+        requires there { e < entity_count self.old }
         requires waiter { waiter_come_to e self.old ≡ Some tx }
         requires room { 0 < self.old.current_events.room }
         ensures state { state_of self.new

@@ -12,11 +12,7 @@ can_evaluate v m a =
     let w = a.steady.within in
     record {
       readable = record {
-        storages = w.whole.entity_tables.storages;
-        queues = w.whole.entity_tables.queues;
-        switches = w.whole.entity_tables.switches;
-        savevalues = w.whole.entity_tables.savevalues;
-        tables = w.whole.entity_tables.tables;
+        entities = w.whole.entity_tables;
         entries = omega (arith, w.entries, a.few);
         clock = w.clock;
       };

@@ -27,13 +27,13 @@ use Rattle.gw_scan.specs.Visiting.{IsVisit, MayMake, MayTry, MayTurn}
 use Rattle.gw_scan.specs.declared.visit.Visit.{Visit}
 
 -- a steady machine whose state is this one, which is within the same bounds
-steady-by : (v : Visit) (m new : Configuration) (s : State) → IsVisit v m → state_of new ≡ s → s.steps ≡ m.steps → length s.entities.facilities ≡ length m.facilities.values
-    → IsWithin (length v.verified.now.blocks) (length m.facilities.values) m.steps (made_in m.steps) s → IsSteady v.verified.now.blocks new.steps new
+steady-by : (v : Visit) (m new : Configuration) (s : State) → IsVisit v m → state_of new ≡ s → s.steps ≡ m.steps → length s.entities.facilities ≡ length m.entities.facilities.values
+    → IsWithin (length v.verified.now.blocks) (length m.entities.facilities.values) m.steps (made_in m.steps) s → IsSteady v.verified.now.blocks new.steps new
 steady-by v m new s is same steps count within =
     let steps_now : new.steps ≡ m.steps = ap (λ (x : State). x.steps) same ∙ steps in
     subst (λ k. IsSteady v.verified.now.blocks k new) (sym steps_now)
     (steady-now v.verified.now.blocks m.steps m.steps m new is.steady (omega arith) (ap (λ (x : State). length x.entities.facilities) same ∙ count)
-    (subst (λ (x : State). IsWithin (length v.verified.now.blocks) (length m.facilities.values) m.steps (made_in m.steps) x) (sym same) within) is.steady.few)
+    (subst (λ (x : State). IsWithin (length v.verified.now.blocks) (length m.entities.facilities.values) m.steps (made_in m.steps) x) (sym same) within) is.steady.few)
 
 -- the block to which a visit leads is one of the object's
 pub next-within : (bs : List Block) (b : ℕ) (P : Block → Type 0) → IsSomeAnd (block_at bs b) P → b ≤ length bs
@@ -55,7 +55,7 @@ module _ (v : Visit) (to : ℕ) (m : Configuration) (may : MayTry v to m) where
       record {
         visit = record {
           steady = steady-by v m new now may.visit same refl refl
-              (within-turned (length p.blocks) (length m.facilities.values) m.steps (made_in m.steps) (state_of m) may.visit.steady.within n to t (number_below m.transactions.txs n t may.visit.found) (mark_from m.transactions.txs n t may.visit.steady.within.marked may.visit.found));
+              (within-turned (length p.blocks) (length m.entities.facilities.values) m.steps (made_in m.steps) (state_of m) may.visit.steady.within n to t (number_below m.transactions.txs n t may.visit.found) (mark_from m.transactions.txs n t may.visit.steady.within.marked may.visit.found));
           few = omega (arith, may.visit.few, ap (λ (s : State). s.steps) same);
           runs = subst (λ (s : State). pos 0 <ℤ s.count) (sym same) may.visit.runs;
           active = active ∙ may.visit.active;
@@ -73,7 +73,7 @@ module _ (v : Visit) (to : ℕ) (m : Configuration) (may : MayTry v to m) where
 pub visit-drawn : (v : Visit) (m new : Configuration) → IsVisit v m → state_of new ≡ with_streams new.streams (state_of m) → new.active ≡ m.active → Holds new.transactions v.tx → length new.streams ≡ 16 → IsVisit v new
 visit-drawn v m new is same active held whole = record {
   steady = steady-by v m new (with_streams new.streams (state_of m)) is same refl refl
-      (within-streams (length v.verified.now.blocks) (length m.facilities.values) m.steps (made_in m.steps) (state_of m) is.steady.within new.streams whole);
+      (within-streams (length v.verified.now.blocks) (length m.entities.facilities.values) m.steps (made_in m.steps) (state_of m) is.steady.within new.streams whole);
   few = omega (arith, is.few, ap (λ (s : State). s.steps) same);
   runs = subst (λ (s : State). pos 0 <ℤ s.count) (sym same) is.runs;
   active = active ∙ is.active;

@@ -1,11 +1,11 @@
 -- The visit of a machine's active transaction to its next block: what the block may rely on, and what it makes.
-use Rattle.std.specs.Prelude.{◌≡◌, ℕ, ℤ, ◌+◌, ◌≤◌, List, length, Option, Some, Bool, not, ◌&&◌, is_none, if◌then◌else◌, Result}
+use Rattle.std.specs.Prelude.{◌≡◌, ℕ, ℤ, ◌+◌, ◌≤◌, List, Option, Some, Bool, not, ◌&&◌, is_none, if◌then◌else◌, Result}
 use Rattle.gw_blocks.specs.declared.parts.Block.{Block}
 use Rattle.gw_operands.specs.Environment.{Environment}
 use Rattle.gw_machine.specs.Coherence.{IsActive, IsOf, IsPassing, IsRunning}
 use Rattle.gw_machine.specs.Configuration.{Configuration}
 use Rattle.gw_machine.specs.Slots.{greatest_set, set_by}
-use Rattle.gw_machine.specs.View.{state_of}
+use Rattle.gw_machine.specs.View.{state_of, entity_count}
 use Rattle.gw_machine.specs.declared.machine.Made.{Made}
 use Rattle.gw_object.specs.declared.parts.Parts.{Parts}
 use Rattle.gw_machine.specs.Leaving.{BecomesOnOk}
@@ -70,7 +70,7 @@ pub record Meets (v : Visit) (m : Configuration) (block : Block) : Type 0 where
   pub visit : IsVisit v m
   pub own : IsOf v.verified.now m
   pub values : MayMeet v.verified.now (state_of m) v.tx.number v.transaction block
-  pub operands : OperandsFit (length m.facilities.values) block
+  pub operands : OperandsFit (entity_count m) block
   pub slot : set_by block ≤ m.last
   pub asks : Asks v.verified.now v.tx.number (state_of m) block
   pub leads : Leads v.verified.now.blocks v.transaction.next block

@@ -6,6 +6,7 @@ ghost use Rattle.gw_step.specs.Changes as change;
 ghost use Rattle.gw_step.specs.Blocks as model;
 ghost use Rattle.gw_machine.specs.Coherence.{HasSlot};
 ghost use Rattle.gw_machine.specs.Leaving.{BecomesBy};
+ghost use Rattle.gw_machine.specs.View.{entity_count};
 ghost use Rattle.gw_scan.specs.Makes.{MakesFrom};
 ghost use Rattle.gw_scan.specs.Origins.{assign_of, save_of};
 ghost use Rattle.gw_scan.specs.Visiting.{Acts, IsVisit, MayFall, Meets, after_entry, entry_after};
@@ -199,7 +200,8 @@ impl Visit<'_> {
             Ok(value) => value,
             Err(end) => return Made::Ends(end_by(end)),
         };
-        let new = match put_by(save.mode, machine.savevalues().get(save.savevalue), value) {
+        let old = machine.entities().savevalues.get(save.savevalue);
+        let new = match put_by(save.mode, old, value) {
             Ok(new) => new,
             Err(fault) => return Made::Ends(end_by_fault(fault)),
         };
@@ -214,7 +216,7 @@ impl Visit<'_> {
         requires { Meets self.now machine.old (Block.Savevalue (save_of save)) }
         ensures { Acts result self.now (Block.Savevalue (save_of save)) machine.old machine.new }
     {
-        let old = machine.savevalues().get(save.savevalue);
+        let old = machine.entities().savevalues.get(save.savevalue);
         let new = match put_by(save.mode, old, save.value) {
             Ok(new) => new,
             Err(fault) => return Made::Ends(end_by_fault(fault)),
@@ -235,7 +237,7 @@ impl Visit<'_> {
         streams: &[Stream; 16],
     ) -> Made
         requires visit { IsVisit self.now machine.old }
-        requires there { table < length machine.old.facilities.values }
+        requires there { table < entity_count machine.old }
         requires falls { MayFall self.now }
         ensures { MakesFrom result (entry_after streams.now
             (λ bs n t. model.tabulate bs n t table value) self.now)

@@ -10,7 +10,7 @@ ghost use Rattle.gw_step.specs.Changes as change;
 ghost use Rattle.gw_step.specs.Blocks as model;
 ghost use Rattle.gw_step.specs.Step as steps;
 ghost use Rattle.gw_step.specs.Placing.{placed};
-ghost use Rattle.gw_machine.specs.View.{state_of};
+ghost use Rattle.gw_machine.specs.View.{state_of, entity_count};
 ghost use Rattle.gw_machine.specs.Leaving.{BecomesBy, BecomesOnOk};
 ghost use Rattle.gw_machine.specs.Spans.{spread_of};
 ghost use Rattle.gw_scan.specs.Origins.{generate_of, origin};
@@ -186,7 +186,7 @@ impl Visit<'_> {
     /// RELEASE where the facility was given up: the transaction enters, and the facility is handed over.
     fn pass_and_hand_over(&self, machine: &mut Machine, f: u16)
         requires entering { IsEntering self.now machine.old }
-        requires there { f < length machine.old.facilities.values }
+        requires there { f < length machine.old.entities.facilities.values }
         requires idle { is_idle_now (change.facility f (state_of machine.old)) ≡ true }
         requires room { 0 < machine.old.current_events.room }
         ensures { BecomesBy (λ s. model.hand_over self.now.verified.now.blocks f
@@ -228,7 +228,7 @@ impl Visit<'_> {
     /// LEAVE where the units were given back: the transaction enters, and waiters are admitted.
     fn pass_and_admit(&self, machine: &mut Machine, e: u16)
         requires entering { IsEntering self.now machine.old }
-        requires there { e < length machine.old.facilities.values }
+        requires there { e < entity_count machine.old }
         requires room { length (at [] machine.old.waits.lists e) ≤ machine.old.current_events.room }
         ensures { BecomesBy (λ s. model.admission self.now.verified.now.blocks e
             (state.delay_list e s)

@@ -99,7 +99,7 @@ impl Visit<'_> {
     fn come_to_assembly(&self, machine: &mut Machine, assembly: Assembly) -> Result<Made, Memory>
         requires visit { IsVisit self.now machine.old }
         requires there { assembly_met self.now machine.old ≡ Some (assembly_of assembly) }
-        requires nothing { owns_any self.now.tx.number machine.old.facilities.values ≡ false }
+        requires nothing { owns_any self.now.tx.number machine.old.entities.facilities.values ≡ false }
         ensures { MakesOnOk result (entry
             (λ bs n t. model.assemble_other n t (assembly_of assembly)) self.now)
             machine.old machine.new }

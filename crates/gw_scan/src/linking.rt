@@ -3,7 +3,7 @@
 
 ghost use Rattle.std.specs.Prelude.{◌≡◌, ◌<◌, length};
 ghost use Rattle.gw_step.specs.Blocks as model;
-ghost use Rattle.gw_machine.specs.View.{state_of};
+ghost use Rattle.gw_machine.specs.View.{state_of, entity_count};
 ghost use Rattle.gw_machine.specs.Leaving.{BecomesOnOk};
 ghost use Rattle.gw_scan.specs.Visiting.{ActsOnOk, IsVisit, Meets, after_fall};
 
@@ -15,7 +15,7 @@ use gw_step::Placement;
 
 /// How many members an UNLINK takes from its user chain: as many as it asks for at most, or all.
 fn taken_by(machine: &Machine, unlink: Unlink) -> usize
-    requires there { unlink.chain < length machine.now.facilities.values }
+    requires there { unlink.chain < entity_count machine.now }
     ensures { result ≡ model.taken_by unlink (state_of machine.now) }
 {
     let members = machine.members(unlink.chain);
@@ -50,7 +50,7 @@ impl Visit<'_> {
         count: usize,
     ) -> Result<(), Memory>
         requires visit { IsVisit self.now machine.old }
-        requires there { unlink.chain < length machine.old.facilities.values }
+        requires there { unlink.chain < entity_count machine.old }
         ensures { BecomesOnOk result (λ s. model.unlinked count unlink.chain unlink.target
             (after_fall self.now s))
             machine.old machine.new }

@@ -161,7 +161,7 @@ impl Sim {
         ensures count { length result.now.values ≡ length self.now.job.parts.entities }
         ensures clock { pos result.now.passed ≡ self.now.state.clock }
     {
-        self.machine.facilities()
+        &self.machine.entities().facilities
     }
 
     /// The storages, each by its number as an entity. The clock units that passed over them are the clock.
@@ -170,7 +170,7 @@ impl Sim {
         ensures count { length result.now.values ≡ length self.now.job.parts.entities }
         ensures clock { pos result.now.passed ≡ self.now.state.clock }
     {
-        self.machine.storages()
+        &self.machine.entities().storages
     }
 
     /// The queues, each by its number as an entity. The clock units that passed over them are the clock.
@@ -179,7 +179,7 @@ impl Sim {
         ensures count { length result.now.values ≡ length self.now.job.parts.entities }
         ensures clock { pos result.now.passed ≡ self.now.state.clock }
     {
-        self.machine.queues()
+        &self.machine.entities().queues
     }
 
     /// The logic switches, each by its number as an entity: whether it is set.
@@ -187,7 +187,7 @@ impl Sim {
         ensures switches { result.now ≡ self.now.state.entities.switches }
         ensures count { length result.now ≡ length self.now.job.parts.entities }
     {
-        self.machine.switches()
+        &self.machine.entities().switches
     }
 
     /// The savevalues, each by its number as an entity: its value.
@@ -195,7 +195,7 @@ impl Sim {
         ensures savevalues { result.now ≡ self.now.state.entities.savevalues }
         ensures count { length result.now ≡ length self.now.job.parts.entities }
     {
-        self.machine.savevalues()
+        &self.machine.entities().savevalues
     }
 
     /// The tables, each by its number as an entity.
@@ -203,7 +203,7 @@ impl Sim {
         ensures tables { result.now ≡ self.now.state.entities.tables }
         ensures count { length result.now ≡ length self.now.job.parts.entities }
     {
-        self.machine.tables()
+        &self.machine.entities().tables
     }
 
     /// How many transactions wait for an entity, by its number from 0: the length of its delay list.

@@ -18,7 +18,7 @@ loop-tx-init c =
     let bs = c.args.blocks.now in
     let asked = c.may_admit.ensures.frame in
     let state = starts.state ∙ ap state_of asked in
-    let facilities = ap (λ (x : Configuration). x.facilities) starts.frame ∙ ap (λ (x : Configuration). x.facilities) asked in
+    let facilities = ap (λ (x : Configuration). x.entities.facilities) starts.frame ∙ ap (λ (x : Configuration). x.entities.facilities) asked in
     let same = ap (λ (xs : List (List Member)). length (at [] xs c.args.e)) starts.lists ∙ ap (λ (x : Configuration). length (at [] x.waits.lists c.args.e)) asked in
     let room = ap (λ (x : Configuration). x.current_events.room) starts.frame ∙ ap (λ (x : Configuration). x.current_events.room) asked in
     record {
@@ -67,10 +67,10 @@ loop-tx-preserved-then-not-admit_one c =
       walk = ap (λ i. rest_of_walk bs c.args.e i c.pass_waiter.new.self) (passes.place ∙ ap (λ i. i + 1) place)
           ∙ walk-same bs c.args.e (was + 1) c.admit_one.new.self c.pass_waiter.new.self passes.lists passes.state
           ∙ walk-on bs c.args.e was c.loop-tx.self c.admit_one.new.self c.in-Some.tx false there e.state e.moves ∙ old.walk;
-      steady = steady-same bs (c.args.self.now.steps + 1) c.admit_one.new.self c.pass_waiter.new.self steady passes.state (ap (λ (x : Configuration). x.facilities) passes.frame);
+      steady = steady-same bs (c.args.self.now.steps + 1) c.admit_one.new.self c.pass_waiter.new.self steady passes.state (ap (λ (x : Configuration). x.entities.facilities) passes.frame);
       steps = ap (λ (x : Configuration). x.steps) passes.frame ∙ e.frame.0 ∙ old.steps;
       slots = ap (λ (x : Configuration). x.last) passes.frame ∙ e.frame.2 ∙ old.slots;
-      there = rw (ap (λ (x : Configuration). x.facilities) passes.frame) (rw e.frame.1 old.there);
+      there = rw (ap (λ (x : Configuration). x.entities.facilities) passes.frame) (rw e.frame.1 old.there);
       place = omega (arith, list, place, kept, passes.place, left-place c.args.e was c.loop-tx.self c.in-Some.tx there);
       room = omega (arith, list, place, kept, passes.place, ap (λ (x : Configuration). x.current_events.room) passes.frame, room, old.room);
     }
@@ -104,7 +104,7 @@ loop-tx-preserved c =
 pub returns : goal.returns
 returns c =
     let steady = c.loop-tx.invariant.steady in (
-      sym (walk-ends c.args.blocks.now (length c.loop-tx.self.facilities.values) c.args.e (at 0 c.loop-tx.self.waits.places c.args.e) c.loop-tx.self steady.fit c.in_default.ensures) ∙ c.loop-tx.invariant.walk,
+      sym (walk-ends c.args.blocks.now (length c.loop-tx.self.entities.facilities.values) c.args.e (at 0 c.loop-tx.self.waits.places c.args.e) c.loop-tx.self steady.fit c.in_default.ensures) ∙ c.loop-tx.invariant.walk,
       c.loop-tx.invariant.slots,
     )
 

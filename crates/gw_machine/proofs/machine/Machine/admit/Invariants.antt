@@ -14,7 +14,7 @@ invariant-loop-tx l = record {
   steady : IsSteady l.blocks (l.fn.self.steps + 1) l.self;
   steps : l.self.steps ≡ l.fn.self.steps;
   slots : l.self.last ≡ l.fn.self.last;
-  there : l.e < length l.self.facilities.values;
+  there : l.e < length l.self.entities.facilities.values;
   place : at 0 l.self.waits.places l.e ≤ length (at [] l.self.waits.lists l.e);
   room : length (at [] l.self.waits.lists l.e) ≤ l.self.current_events.room + at 0 l.self.waits.places l.e;
 }

@@ -38,7 +38,7 @@ returns-clause-carries c = rw (← c.self.view_is) (carries-insert (shown c.self
 
 pub invariant_of-self : goal.invariant_of-self
 invariant_of-self c = (
-  linked-arrived (shown c.self.inside) _ c.insert_with-tx.result _ c.args.block c.args.priority c.args.time c.insert_with-tx.ensures.txs c.insert_with-tx.ensures.places c.insert_with-tx.ensures.last c.insert_with-tx.ensures.number c.insert_with-tx.ensures.sound refl refl (scheduled c) (record { waits = refl; assemblies = refl; chains = refl; facilities = refl; storages = refl; queues = refl; clock = refl }) (rw (← c.self.view_is) at (returns-clause-state c)) (omega arith) c.self.invariant.0,
+  linked-arrived (shown c.self.inside) _ c.insert_with-tx.result _ c.args.block c.args.priority c.args.time c.insert_with-tx.ensures.txs c.insert_with-tx.ensures.places c.insert_with-tx.ensures.last c.insert_with-tx.ensures.number c.insert_with-tx.ensures.sound refl refl (scheduled c) (record { waits = refl; assemblies = refl; chains = refl; entities = refl; clock = refl }) (rw (← c.self.view_is) at (returns-clause-state c)) (omega arith) c.self.invariant.0,
   known-apart c.self.inside.wants (length (shown c.self.inside).transactions.txs) (state_of (shown c.self.inside)) _
       (written-same (length (shown c.self.inside).transactions.txs) (shown c.self.inside).transactions.txs _ _ (made c)) refl refl
       (nowhere-apart (length (shown c.self.inside).transactions.txs) (state_of (shown c.self.inside)) c.self.invariant.0.resides (at_past None (shown c.self.inside).transactions.txs _ (omega arith))) c.self.invariant.1,

@@ -31,6 +31,6 @@ returns-clause-state c =
 pub invariant_of-self : goal.invariant_of-self
 invariant_of-self c = (
   linked-assembled (shown c.self.inside) c.self.invariant.0 c.args.assembly (rw (← c.self.view_is) at c.requires.there) c.finish.result c.finish.ensures.value c.get.result.now.priority (rank c) c.insert_behind.new.self.items (joined c) c.finish.new.self.items c.finish.ensures.items
-      _ refl refl refl refl refl refl refl refl refl refl refl ((rw (← c.self.view_is) at (returns-clause-state c)).0),
+      _ refl refl refl refl refl refl refl refl refl ((rw (← c.self.view_is) at (returns-clause-state c)).0),
   known-by c.self.inside.wants (state_of (shown c.self.inside)) _ refl refl refl c.self.invariant.1,
 )

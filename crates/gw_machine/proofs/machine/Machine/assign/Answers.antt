@@ -19,7 +19,7 @@ returns-clause-rank c =
 
 pub invariant_of-self : goal.invariant_of-self
 invariant_of-self c =
-    let keeps : Keeps (shown c.self.inside) _ = record { waits = refl; assemblies = refl; chains = refl; facilities = refl; storages = refl; queues = refl; clock = refl } in (
+    let keeps : Keeps (shown c.self.inside) _ = record { waits = refl; assemblies = refl; chains = refl; entities = refl; clock = refl } in (
       linked-assigned (shown c.self.inside) _ c.args.tx c.args.parameter c.args.value (set c) c.assign.ensures.rest.places c.assign.ensures.rest.last c.assign.ensures.rest.sound refl refl refl keeps (ap (λ ts. record (state_of (shown c.self.inside)) { transactions = ts }) (set c)) c.self.invariant.0,
       known-nexts c.self.inside.wants (state_of (shown c.self.inside)) _ (assigned-next c.args.tx.number c.args.parameter c.args.value (shown c.self.inside).transactions.txs c.assign.new.self.txs (set c)) refl refl c.self.invariant.1,
     )

@@ -11,6 +11,6 @@ returns c = rw (← c.self.view_is) (state-awaits (shown c.self.inside) c.args.t
 pub invariant_of-self : goal.invariant_of-self
 invariant_of-self c = (
   linked-awaits (shown c.self.inside) c.args.tx c.args.begins c.self.invariant.0 (rw (← c.self.view_is) at c.requires.rests) c.begin.new.self.items c.begin.ensures.items
-      _ refl refl refl refl refl refl refl refl refl refl refl ((rw (← c.self.view_is) at (returns c)).0),
+      _ refl refl refl refl refl refl refl refl refl ((rw (← c.self.view_is) at (returns c)).0),
   known-by c.self.inside.wants (state_of (shown c.self.inside)) _ refl refl refl c.self.invariant.1,
 )

@@ -23,7 +23,7 @@ pub invariant_of-self : goal.invariant_of-self
 invariant_of-self c = (
   linked-called (shown c.self.inside) c.self.invariant.0 c.args.entity (rw (← c.self.view_is) at c.requires.entity) c.args.tx c.args.priority (rw (← c.self.view_is) at c.requires.rank) (at 0 (shown c.self.inside).waits.places c.args.entity) (rw (← c.self.view_is) at c.requires.there) c.take.new.self.lists c.take.new.self.retry c.take.ensures.retry c.take.ensures.lists _
       (ranked-at (shown c.self.inside).transactions c.args.tx (at [] (shown c.self.inside).waits.lists c.args.entity) (at 0 (shown c.self.inside).waits.places c.args.entity) (c.self.invariant.0.delay_lists c.args.entity (rw (← c.self.view_is) at c.requires.entity)) (rw (← c.self.view_is) at c.requires.there))
-      refl refl (joined c) refl refl refl refl refl refl refl refl refl (rw (← c.self.view_is) at (returns-clause-state c)),
+      refl refl (joined c) refl refl refl refl refl refl refl (rw (← c.self.view_is) at (returns-clause-state c)),
   known-same c.drop_leaver.new.self _ _ (rw (← c.self.view_is) at (returns-clause-state c))
       (known-left c.self.inside.wants c.drop_leaver.new.self c.args.entity c.drop_leaver.ensures.others c.args.tx.number (state_of (shown c.self.inside)) c.get.result.now.next c.entry_or_none-entries.result (next-found c.args.tx.number (shown c.self.inside).transactions.txs c.get.result.now c.get.ensures.value) (ap (λ es. at 0 es c.get.result.now.next) (sym c.deref.ensures.value) ∙ sym c.entry_or_none-entries.ensures) c.drop_leaver.ensures.here
       (occurs-there (shown c.self.inside) c.self.invariant.0 c.args.entity (rw (← c.self.view_is) at c.requires.entity) c.args.tx c.args.priority (rw (← c.self.view_is) at c.requires.rank) (at 0 (shown c.self.inside).waits.places c.args.entity) (rw (← c.self.view_is) at c.requires.there) c.take.new.self.lists c.take.new.self.retry c.take.ensures.retry c.take.ensures.lists) c.self.invariant.1),

@@ -35,7 +35,7 @@ pub invariant_of-self : goal.invariant_of-self
 invariant_of-self c =
     let e = c.insert_with-made.ensures in (
       linked-copied (shown c.self.inside) c.self.invariant.0 c.args.tx.number c.args.transaction c.requires.block c.args.target c.insert_with-made.result c.insert_with-made.new.self (made c) e.places e.last e.number c.insert_behind.new.self.items (joined c)
-          _ refl e.sound refl refl refl (record { waits = refl; assemblies = refl; chains = refl; facilities = refl; storages = refl; queues = refl; clock = refl }) (rw (← c.self.view_is) at (returns-clause-state c)),
+          _ refl e.sound refl refl refl (record { waits = refl; assemblies = refl; chains = refl; entities = refl; clock = refl }) (rw (← c.self.view_is) at (returns-clause-state c)),
       known-apart c.self.inside.wants (length (shown c.self.inside).transactions.txs) (state_of (shown c.self.inside)) _
           (written-same (length (shown c.self.inside).transactions.txs) (shown c.self.inside).transactions.txs _ _ (made c)) refl refl
           (nowhere-apart (length (shown c.self.inside).transactions.txs) (state_of (shown c.self.inside)) c.self.invariant.0.resides (at_past None (shown c.self.inside).transactions.txs _ (omega arith))) c.self.invariant.1,

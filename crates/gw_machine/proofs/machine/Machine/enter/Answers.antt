@@ -16,7 +16,7 @@ returns-clause-state c = rw (← c.self.view_is) (search rules)
 
 pub invariant_of-self : goal.invariant_of-self
 invariant_of-self c = (
-  linked-entered (shown c.self.inside) _ c.args.tx c.args.transaction c.args.next c.set.ensures.txs c.set.ensures.rest.places c.set.ensures.rest.last c.set.ensures.rest.sound refl refl refl (record { waits = refl; assemblies = refl; chains = refl; facilities = refl; storages = refl; queues = refl; clock = refl }) (rw (← c.self.view_is) at (returns-clause-state c)) c.requires.block.1 (rw (← c.self.view_is) at c.requires.rank) c.self.invariant.0,
+  linked-entered (shown c.self.inside) _ c.args.tx c.args.transaction c.args.next c.set.ensures.txs c.set.ensures.rest.places c.set.ensures.rest.last c.set.ensures.rest.sound refl refl refl (record { waits = refl; assemblies = refl; chains = refl; entities = refl; clock = refl }) (rw (← c.self.view_is) at (returns-clause-state c)) c.requires.block.1 (rw (← c.self.view_is) at c.requires.rank) c.self.invariant.0,
   forgotten-unless c.self.inside.wants c.forget_unless_active.new.self (shown c.self.inside).active c.args.tx (state_of (shown c.self.inside)) _ refl c.self.invariant.0.resides c.forget_unless_active.ensures
       (λ none. known-same c.self.inside.wants _ _ (rw (← c.self.view_is) at (returns-clause-state c)) (known-entered c.self.inside.wants c.args.tx.number c.args.transaction c.args.next (state_of (shown c.self.inside)) none c.self.invariant.1)),
 )

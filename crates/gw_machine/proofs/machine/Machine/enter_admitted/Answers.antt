@@ -20,7 +20,7 @@ returns-clause-state c = rw (← c.self.view_is) (search (rules, written c))
 
 pub invariant_of-self : goal.invariant_of-self
 invariant_of-self c = (
-  linked-entered (shown c.self.inside) _ c.args.tx c.args.transaction (c.args.transaction.next + 1) (written c) c.step_to.ensures.rest.places c.step_to.ensures.rest.last c.step_to.ensures.rest.sound refl refl refl (record { waits = refl; assemblies = refl; chains = refl; facilities = refl; storages = refl; queues = refl; clock = refl }) (rw (← c.self.view_is) at (returns-clause-state c)) c.requires.block.1 (ranked c) c.self.invariant.0,
+  linked-entered (shown c.self.inside) _ c.args.tx c.args.transaction (c.args.transaction.next + 1) (written c) c.step_to.ensures.rest.places c.step_to.ensures.rest.last c.step_to.ensures.rest.sound refl refl refl (record { waits = refl; assemblies = refl; chains = refl; entities = refl; clock = refl }) (rw (← c.self.view_is) at (returns-clause-state c)) c.requires.block.1 (ranked c) c.self.invariant.0,
   known-same c.tell_entry.new.self _ _ (rw (← c.self.view_is) at (returns-clause-state c))
       (known-admitted c.self.inside.wants c.tell_entry.new.self c.args.e c.tell_entry.ensures.others c.args.tx.number c.args.transaction (c.args.transaction.next + 1) (state_of (shown c.self.inside)) c.entry_or_none-entries.result
       (ap (λ es. at 0 es c.args.transaction.next) (sym c.deref.ensures.value) ∙ sym c.entry_or_none-entries.ensures)

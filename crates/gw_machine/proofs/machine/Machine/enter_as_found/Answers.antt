@@ -24,7 +24,7 @@ returns-clause-state c = rw (← c.self.view_is) (search (rules, written c))
 
 pub invariant_of-self : goal.invariant_of-self
 invariant_of-self c = (
-  linked-entered (shown c.self.inside) _ c.args.tx c.args.transaction c.args.next (written c) c.step_to.ensures.rest.places c.step_to.ensures.rest.last c.step_to.ensures.rest.sound refl refl refl (record { waits = refl; assemblies = refl; chains = refl; facilities = refl; storages = refl; queues = refl; clock = refl }) (rw (← c.self.view_is) at (returns-clause-state c)) c.requires.block.1 (ranked c) c.self.invariant.0,
+  linked-entered (shown c.self.inside) _ c.args.tx c.args.transaction c.args.next (written c) c.step_to.ensures.rest.places c.step_to.ensures.rest.last c.step_to.ensures.rest.sound refl refl refl (record { waits = refl; assemblies = refl; chains = refl; entities = refl; clock = refl }) (rw (← c.self.view_is) at (returns-clause-state c)) c.requires.block.1 (ranked c) c.self.invariant.0,
   known-same c.self.inside.wants _ _ (rw (← c.self.view_is) at (returns-clause-state c)) (known-found c.self.inside.wants c.args.tx.number c.args.transaction c.args.next (state_of (shown c.self.inside)) (rw (← c.self.view_is) at c.requires.found) c.self.invariant.1),
 )
 

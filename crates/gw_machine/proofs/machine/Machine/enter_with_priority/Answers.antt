@@ -19,7 +19,7 @@ returns-clause-state c = rw (← c.self.view_is) (search rules)
 pub invariant_of-self : goal.invariant_of-self
 invariant_of-self c = (
   linked-ranked (shown c.self.inside) _ c.args.tx (record c.args.transaction { priority = c.args.priority }) (c.args.transaction.next + 1) (written c) c.set.ensures.rest.places c.set.ensures.rest.last c.set.ensures.rest.sound
-      (rw (← c.self.view_is) at c.requires.active) (rw (← c.self.view_is) at c.requires.held) refl refl refl (record { waits = refl; assemblies = refl; chains = refl; facilities = refl; storages = refl; queues = refl; clock = refl }) (rw (← c.self.view_is) at (returns-clause-state c)) c.requires.block.1 c.self.invariant.0,
+      (rw (← c.self.view_is) at c.requires.active) (rw (← c.self.view_is) at c.requires.held) refl refl refl (record { waits = refl; assemblies = refl; chains = refl; entities = refl; clock = refl }) (rw (← c.self.view_is) at (returns-clause-state c)) c.requires.block.1 c.self.invariant.0,
   known-same c.self.inside.wants _ _ (rw (← c.self.view_is) at (returns-clause-state c)) (known-entered c.self.inside.wants c.args.tx.number (record c.args.transaction { priority = c.args.priority }) (c.args.transaction.next + 1) (state_of (shown c.self.inside)) (alone c.args.tx.number (state_of (shown c.self.inside)) (ap (option_map (λ (x : Tx). x.number)) (rw (← c.self.view_is) at c.requires.active)) c.self.invariant.0.resides).delay_lists c.self.invariant.1),
 )
 

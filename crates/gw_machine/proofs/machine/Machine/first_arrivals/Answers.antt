@@ -2,10 +2,9 @@ use Rattle.std.proofs.Common.{◌+◌, List, None, pos, length, get_or, sym, ap,
 use Rattle.gw_blocks.specs.declared.parts.Operand.TheVariants.{Constant}
 use Rattle.gw_blocks.specs.declared.parts.Block.{Block}
 use Rattle.gw_blocks.specs.declared.parts.Block.TheVariants as blocks
-use Rattle.gw_entities.specs.declared.facilities.Facility.{Facility}
-use Rattle.gw_entities.specs.Numbered.{ByNumber}
 use Rattle.gw_step.specs.Start.{first_arrival}
 use Rattle.gw_machine.specs.View.{state_of}
+use Rattle.gw_machine.specs.declared.entity_tables.EntityTables.{EntityTables}
 use Rattle.gw_machine.specs.Leaving.{Schedules}
 use Rattle.gw_machine.proofs.Starting.{block_here, stops, continues, is_done}
 use Rattle.gw_machine.proofs.machine.Machine.first_arrivals.Goals as goal
@@ -38,7 +37,7 @@ loop-i-preserved c = record {
       (made (goal.at.loop-i-preserved c).After-is_some) c.loop-i.invariant.made;
   readable = c.in_ok-end.ensures.readable;
   slots = c.in_ok-end.ensures.slots ∙ c.loop-i.invariant.slots;
-  own = ap (λ (f : ByNumber Facility). length f.values) c.in_ok-end.ensures.entities ∙ c.loop-i.invariant.own;
+  own = ap (λ (t : EntityTables). length t.facilities.values) c.in_ok-end.ensures.entities ∙ c.loop-i.invariant.own;
   table = omega (arith, c.in_ok-end.ensures.scheduled.0);
   txs = omega (arith, c.in_ok-end.ensures.made_by);
   scheduled = omega (arith, c.in_ok-end.ensures.scheduled.1);

@@ -17,6 +17,6 @@ returns-else-assembly-le1-clause-state c =
 pub invariant_of-self : goal.invariant_of-self
 invariant_of-self c = (
   linked-come (shown c.self.inside) c.self.invariant.0 c.args.assembly (rw (← c.self.view_is) at c.requires.there) c.come.new.self.items c.come.ensures.items
-      _ refl refl refl refl refl refl refl refl refl refl refl (state-come (shown c.self.inside) c.self.invariant.0 c.args.assembly (rw (← c.self.view_is) at c.requires.there) c.come.new.self.items c.come.ensures.items),
+      _ refl refl refl refl refl refl refl refl refl (state-come (shown c.self.inside) c.self.invariant.0 c.args.assembly (rw (← c.self.view_is) at c.requires.there) c.come.new.self.items c.come.ensures.items),
   known-by c.self.inside.wants (state_of (shown c.self.inside)) _ refl refl refl c.self.invariant.1,
 )

@@ -27,7 +27,7 @@ pub invariant_of-self : goal.invariant_of-self
 invariant_of-self c = (
   let r = (rw (← c.self.view_is) at c.requires.rests) in
       linked-waits (shown c.self.inside) c.self.invariant.0 c.args.entity (rw (← c.self.view_is) at c.requires.entity) c.args.tx c.args.priority (rw (← c.self.view_is) at c.requires.rank) r.held r.active c.push_wait.new.self.lists c.push_wait.new.self.retry c.push_wait.ensures.retry (joined c)
-      _ refl refl refl refl refl refl refl refl refl refl refl refl ((rw (← c.self.view_is) at (returns c)).0),
+      _ refl refl refl refl refl refl refl refl refl refl ((rw (← c.self.view_is) at (returns c)).0),
   known-same c.add_newcomer.new.self _ _ ((rw (← c.self.view_is) at (returns c)).0)
       (known-joined c.self.inside.wants c.add_newcomer.new.self c.args.entity c.add_newcomer.ensures.others c.args.tx.number (state_of (shown c.self.inside)) c.get.result.now.next (at 0 (shown c.self.inside).entries c.get.result.now.next) (next-found c.args.tx.number (shown c.self.inside).transactions.txs c.get.result.now c.get.ensures.value) refl (subst (λ (es : List ℕ). JoinsIfKnown c.get.result.now.next (at 0 es c.get.result.now.next) (at [] c.self.inside.wants c.args.entity) (at [] c.add_newcomer.new.self c.args.entity)) c.deref.ensures.value c.add_newcomer.ensures.here) c.self.invariant.1),
 )

@@ -15,6 +15,6 @@ returns c = rw (← c.self.view_is) (state-retries (shown c.self.inside) c.args.
 pub invariant_of-self : goal.invariant_of-self
 invariant_of-self c = (
   linked-retries (shown c.self.inside) c.args.tx c.args.priority c.self.invariant.0 (rw (← c.self.view_is) at c.requires.rests) (rw (← c.self.view_is) at c.requires.rank) c.push_retry.new.self (joined c) c.push_retry.ensures.lists
-      _ refl refl refl refl refl refl refl refl refl refl refl ((rw (← c.self.view_is) at (returns c)).0),
+      _ refl refl refl refl refl refl refl refl refl ((rw (← c.self.view_is) at (returns c)).0),
   known-by c.self.inside.wants (state_of (shown c.self.inside)) _ refl (ap (map (map member_number)) c.push_retry.ensures.lists) refl c.self.invariant.1,
 )

@@ -3,7 +3,7 @@ use Rattle.gw_machine.specs.Configuration.{Configuration}
 use Rattle.gw_machine.proofs.Beginning.{Begins, state-nothing, linked-nothing, readable-nothing}
 use Rattle.gw_machine.proofs.machine.Machine.nothing.Goals as goal
 
-abbrev made : goal.After-new-7 → Configuration
+abbrev made : goal.After-new-8 → Configuration
 made c = record {
   clock = pos 0;
   count = to_z w64 c.args.count;
@@ -14,22 +14,17 @@ made c = record {
   transactions = c.in_ok-transactions.transactions;
   last = c.in_ok-transactions.transactions.last;
   active = None;
-  current_events = c.new-4.result;
-  future_events = c.new-5.result;
+  current_events = c.new-5.result;
+  future_events = c.new-6.result;
   waits = c.in_ok-waits.waits;
-  assemblies = c.new-6.result;
+  assemblies = c.new-7.result;
   chains = c.in_ok-chains.chains;
-  facilities = c.in_ok-tables.tables.facilities;
-  storages = c.in_ok-tables.tables.storages;
-  queues = c.in_ok-tables.tables.queues;
-  switches = c.in_ok-tables.tables.switches;
-  savevalues = c.in_ok-tables.tables.savevalues;
-  tables = c.in_ok-tables.tables.tables;
+  entities = c.in_ok-entities.entities;
   entries = c.in_ok-entries.entries.items;
   ended = c.args.ended;
 }
 
-begins : (c : goal.After-new-7) → Begins c.args.object.now c.args.count c.args.streams c.args.ended (made c)
+begins : (c : goal.After-new-8) → Begins c.args.object.now c.args.count c.args.streams c.args.ended (made c)
 begins c = record {
   clock = refl;
   count = search rules;
@@ -39,14 +34,14 @@ begins c = record {
   transactions = c.in_ok-transactions.ensures.txs;
   sound = c.in_ok-transactions.ensures.sound;
   active = refl;
-  current_events = c.new-4.ensures;
-  future_events = c.new-5.ensures;
+  current_events = c.new-5.ensures;
+  future_events = c.new-6.ensures;
   lists = search rules;
   retry = c.in_ok-waits.ensures.retry;
-  assemblies = c.new-6.ensures;
+  assemblies = c.new-7.ensures;
   chains = search rules;
   stir = refl;
-  tables = c.in_ok-tables.ensures;
+  entities = c.in_ok-entities.ensures;
   entries = search rules;
   ended = refl;
 }
@@ -57,7 +52,7 @@ returns-clause-state c = state-nothing c.args.object.now c.args.count c.args.str
 pub invariant_of-result : goal.invariant_of-result
 invariant_of-result c = (
   linked-nothing c.args.object.now c.args.count c.args.streams c.args.ended (made c) (begins c),
-  λ e. rw c.new-7.ensures tt,
+  λ e. rw c.new-8.ensures tt,
 )
 
 pub returns-clause-readable : goal.returns-clause-readable

@@ -22,6 +22,6 @@ returns c =
 
 pub invariant_of-self : goal.invariant_of-self
 invariant_of-self c = (
-  linked-rested (shown c.self.inside) _ c.args.tx c.args.time refl c.self.invariant.0 (rw (← c.self.view_is) at c.requires.rests) refl refl (scheduled c) (record { waits = refl; assemblies = refl; chains = refl; facilities = refl; storages = refl; queues = refl; clock = refl }) ((rw (← c.self.view_is) at (returns c)).0),
+  linked-rested (shown c.self.inside) _ c.args.tx c.args.time refl c.self.invariant.0 (rw (← c.self.view_is) at c.requires.rests) refl refl (scheduled c) (record { waits = refl; assemblies = refl; chains = refl; entities = refl; clock = refl }) ((rw (← c.self.view_is) at (returns c)).0),
   known-by c.self.inside.wants (state_of (shown c.self.inside)) _ refl refl refl c.self.invariant.1,
 )

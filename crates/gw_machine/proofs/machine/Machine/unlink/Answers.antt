@@ -6,7 +6,7 @@ use Rattle.gw_machine.proofs.AtChains.{unlinked-next, unlinked-none}
 use Rattle.gw_machine.proofs.machine.Machine.unlink.Goals as goal
 
 pub unlink_first-requires-clause-chain : goal.unlink_first-requires-clause-chain
-unlink_first-requires-clause-chain c = rw (ap (λ (x : Configuration). x.facilities) c.loop.invariant.frame) c.requires.chain
+unlink_first-requires-clause-chain c = rw (ap (λ (x : Configuration). x.entities.facilities) c.loop.invariant.frame) c.requires.chain
 
 pub loop-preserved : goal.loop-preserved
 loop-preserved c =

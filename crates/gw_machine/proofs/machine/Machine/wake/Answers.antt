@@ -11,6 +11,6 @@ returns-clause-state c = rw (← c.self.view_is) (state-woken (shown c.self.insi
 pub invariant_of-self-2 : goal.invariant_of-self-2
 invariant_of-self-2 c = (
   linked-woken (shown c.self.inside) c.self.invariant.0 c.wake_all.new.cec.items c.wake_all.new.self c.wake_all.ensures.woken c.wake_all.ensures.retry c.wake_all.ensures.lists
-      _ refl refl refl refl refl refl refl refl refl refl refl (rw (← c.self.view_is) at (returns-clause-state c)),
+      _ refl refl refl refl refl refl refl refl refl (rw (← c.self.view_is) at (returns-clause-state c)),
   known-by c.self.inside.wants (state_of (shown c.self.inside)) _ refl (ap (map (map member_number)) c.wake_all.ensures.lists) refl c.self.invariant.1,
 )
