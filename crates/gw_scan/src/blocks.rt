@@ -399,7 +399,7 @@ impl Visit<'_> {
             (steps.meets_one self.now.verified.now self.now.tx.number self.now.transaction)
             machine.old machine.new }
     {
-        let block = decoded_at(decoded, self.transaction.next).unwrap();
+        let block = decoded_at(decoded, self.transaction.next);
         self.act(machine, block)
     }
 

@@ -1,7 +1,7 @@
 //! Transactions with two next blocks: who has entered a TRANSFER BOTH goes on to the first of two blocks that doesn't refuse
 //! it (GPSS World Reference Manual, "TRANSFER").
 
-ghost use Rattle.std.specs.Prelude.{◌≡◌, ◌≤◌, length, Some, None, false};
+ghost use Rattle.std.specs.Prelude.{◌≡◌, ◌≢◌, ◌≤◌, length, Some, None, false};
 ghost use Rattle.gw_rules.specs.Kinds.{block_at};
 ghost use Rattle.gw_transactions.specs.declared.Transaction.{Transaction};
 ghost use Rattle.gw_transactions.specs.Transactions.{Holds, attributes_at};
@@ -241,7 +241,10 @@ impl Visit<'_> {
         requires ready { IsReady self.now.verified.now machine.old }
         requires visit { IsVisit self.now machine.old }
         requires before { before.old.turned ≡ false }
-        ensures { GoesOn result self.now (goes_from self.now) before.new machine.old machine.new }
+        ensures goes { GoesOn result self.now (goes_from self.now) before.new
+            machine.old machine.new }
+        ensures same { self.now.transaction.current ≢ self.now.transaction.next
+            → machine.new ≡ machine.old }
     {
         if self.transaction.current != self.transaction.next {
             return Ok(None);

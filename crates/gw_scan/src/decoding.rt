@@ -1,6 +1,6 @@
 //! Decoded blocks: what of a block can be worked out before any job runs, once for each object.
 
-ghost use Rattle.std.specs.Prelude.{◌≡◌, map, option_map, option_copied, pos, ◌+◌, IfOk, IfSome};
+ghost use Rattle.std.specs.Prelude.{◌≡◌, ◌≤◌, map, length, pos, ◌+◌, Some, IfOk, IfSome};
 ghost use Rattle.gw_machine.specs.Spans.{spread_of};
 ghost use Rattle.gw_rules.specs.Kinds.{block_at};
 ghost use Rattle.gw_scan.specs.Origins.{origin};
@@ -285,14 +285,12 @@ fn decode(block: Block) -> Decoded
     }
 }
 
-/// The decoded block of a number, from 1, if there is one.
-pub(crate) fn decoded_at(table: &[Decoded], number: u16) -> Option<&Decoded>
-    ensures { option_map origin (option_copied result) ≡ block_at (map origin table.now) number }
+/// The decoded block of a number, from 1. There is one.
+pub(crate) fn decoded_at(table: &[Decoded], number: u16) -> &Decoded
+    requires { (1 ≤ number) × (number ≤ length table.now) }
+    ensures { block_at (map origin table.now) number ≡ Some (origin result.now) }
 {
-    if number == 0 {
-        return None;
-    }
-    table.get(number as usize - 1)
+    &table[number as usize - 1]
 }
 
 /// These blocks in their order, each decoded.

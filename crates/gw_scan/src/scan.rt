@@ -1,6 +1,7 @@
 //! The scan: who is active next, and one step.
 
-ghost use Rattle.std.specs.Prelude.{◌≡◌, ◌<◌, ◌^◌, Some, None, false, map, OnOk, OnErr};
+ghost use Rattle.std.specs.Prelude.{◌≡◌, ◌≢◌, ◌<◌, ◌^◌, Some, None, false, map, OnOk, OnErr};
+ghost use Rattle.gw_transactions.specs.Transactions.{Holds, attributes_at};
 ghost use Rattle.gw_step.specs.Step as model;
 ghost use Rattle.gw_machine.specs.View.{state_of};
 ghost use Rattle.gw_machine.specs.Coherence.{IsRunning};
@@ -14,9 +15,10 @@ use crate::decoding::Decoded;
 use crate::visit::{Visit, blocks_of};
 use gw_blocks::Block;
 use gw_machine::{Machine, Made};
-use gw_members::Memory;
+use gw_members::{Memory, Tx};
 use gw_rules::Verified;
 use gw_step::End;
+use gw_transactions::Transaction;
 
 /// Nobody is active: the first of the current events chain becomes so; else the clock moves; else nothing is left.
 fn next_active(machine: &mut Machine, blocks: &[Block]) -> Result<Made, Memory>
@@ -34,6 +36,22 @@ fn next_active(machine: &mut Machine, blocks: &[Block]) -> Result<Made, Memory>
             Ok(Made::Step)
         }
         None => Ok(Made::Ends(End::NoMoreEvents)),
+    }
+}
+
+/// The attributes that a transaction has, which was like this before it might turn: where it had two next blocks it has turned
+/// to one, and else it is as it was.
+#[inline(always)]
+fn once_turned(machine: &Machine, tx: Tx, transaction: Transaction) -> Transaction
+    requires held { Holds machine.now.transactions tx }
+    requires same { transaction.current ≢ transaction.next
+        → attributes_at tx.number machine.now.transactions.txs ≡ Some transaction }
+    ensures { attributes_at tx.number machine.now.transactions.txs ≡ Some result }
+{
+    if transaction.current == transaction.next {
+        machine.transaction(tx)
+    } else {
+        transaction
     }
 }
 
@@ -63,8 +81,7 @@ fn scan(
     if let Some(made) = visit.turn_if_two(machine, before)? {
         return Ok(made);
     }
-    // Where it had two next blocks it has turned to one.
-    let transaction = machine.transaction(tx);
+    let transaction = once_turned(machine, tx, transaction);
     let onward = Visit {
         verified,
         tx,
