@@ -1,6 +1,6 @@
 -- Walks over members in buckets.
 use Rattle.std.proofs.Common.{◌≡◌, ◌∙◌, ℕ, zero, suc, ◌+◌, ◌-◌, ◌<◌, ◌≤◌, ℤ, List, [], ◌∷◌, length, get_or, Some, refl, sym, ap, arith, inl, inr}
-use Rattle.std.proofs.lemmas.Bool.{cases_order}
+use Rattle.std.proofs.lemmas.Bool.{cases_lt, cases_order}
 use Rattle.gw_chains.specs.Buckets.{last_or, Links, total, AreBuckets}
 use Rattle.gw_chains.specs.Spots.{count_at, first_at, place_at, link_at, AreFilled, IsSpot, IsSettled, IsWalk}
 use Rattle.gw_chains.specs.declared.bucket.Bucket.{Bucket}
@@ -92,6 +92,13 @@ place_begun bs s t ends next none =
 -- somebody is left before the end of all
 pub some_left : {X : Type 0} (S : Links X) (bs : List Bucket) (w : Walk) → IsWalk S bs w → place_at bs w.spot.bucket w.spot.passed < total bs → 0 < w.left
 some_left S bs w walk before = omega (arith, is_inside bs w.spot walk.settled before, walk.left)
+
+-- where nobody is left none of a bucket were passed
+pub ended_passed : {X : Type 0} (S : Links X) (bs : List Bucket) (w : Walk) → IsWalk S bs w → w.left ≡ 0 → w.spot.passed ≡ 0
+ended_passed S bs w walk none = elim (cases_lt w.spot.bucket (length bs)) [
+  | inl within ↦ absurd (omega (arith, walk.settled within, walk.left, none))
+  | inr beyond ↦ omega (arith, walk.left, none, count_past bs w.spot.bucket beyond)
+]
 
 -- where nobody is left the walk is there
 pub walk_ended : {X : Type 0} (S : Links X) (bs : List Bucket) (w : Walk) → IsWalk S bs w → w.left ≡ 0 → total bs ≤ place_at bs w.spot.bucket w.spot.passed

@@ -1,5 +1,5 @@
 -- Where a member stands among buckets in a row, and what buckets are without it.
-use Rattle.std.specs.Prelude.{◌≡◌, ◌<◌, ◌≤◌, ◌&&◌, ℕ, zero, suc, ◌+◌, ◌-◌, ◌==◌, nat_le, nat_lt, List, [], ◌∷◌, length, IsSome, if◌then◌else◌}
+use Rattle.std.specs.Prelude.{◌≡◌, ◌<◌, ◌≤◌, ◌⊎◌, ◌&&◌, ℕ, zero, suc, ◌+◌, ◌-◌, ◌==◌, nat_le, nat_lt, List, [], ◌∷◌, length, IsSome, if◌then◌else◌}
 use Rattle.gw_chains.specs.Buckets.{times, last_or, Links, run, linked_to}
 use Rattle.gw_chains.specs.declared.bucket.Bucket.{Bucket}
 use Rattle.gw_chains.specs.declared.spot.Spot.{Spot}
@@ -27,6 +27,10 @@ place_at (b ∷ bs) (suc n) passed = b.count + place_at bs n passed
 abbrev pub AreFilled : List Bucket → Type 0
 AreFilled bs = (n : ℕ) → n < length bs → 0 < count_at bs n
 
+-- a walk is still to begin: at the first member, if there is one
+abbrev pub IsToBegin : Walk → Type 0
+IsToBegin w = (w.spot.bucket ≡ 0) × (w.spot.passed ≡ 0) × (w.left ≡ 0)
+
 -- a spot is not at the end of its bucket
 abbrev pub IsSettled : List Bucket → Spot → Type 0
 IsSettled bs s = s.bucket < length bs → s.passed < count_at bs s.bucket
@@ -53,6 +57,10 @@ module _ {X : Type 0} (links : Links X) where
     pub settled : IsSettled bs w.spot
     pub left : w.spot.passed + w.left ≡ count_at bs w.spot.bucket
     pub here : 0 < w.left → w.here ≡ link_at bs w.spot.bucket w.spot.passed
+
+  -- a walk is at a member or at the end of all, or is still to begin
+  abbrev pub IsWalkOrBegins : List Bucket → Walk → Type 0
+  IsWalkOrBegins bs w = IsWalk bs w ⊎ IsToBegin w
 
   -- the links, where the one before a spot, if there is one, leads to another
   abbrev pub led_past : Spot → ℕ → Links X

@@ -152,9 +152,9 @@ impl Cec {
         ensures rest { self.new.items ≡ rest self.old.items }
         ensures room { self.old.room ≤ self.new.room }
     {
-        if let Some(member) = self.head {
+        if let Some(Member { tx, .. }) = self.head {
             self.head = None;
-            return Some(member.tx);
+            return Some(tx);
         }
         let member = pop_member(&mut self.buckets, &mut self.links)?;
         self.others -= 1;

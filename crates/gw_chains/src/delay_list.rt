@@ -9,7 +9,7 @@ use crate::bucket::{Bucket, Link};
 use crate::buckets::next_member;
 use crate::row::{insert_behind, remove_member, reserve, unlink};
 use crate::spot::member_at;
-use crate::walk::{Walk, advance, walk_at, walk_from};
+use crate::walk::{Walk, advance, begin_walk, walk_at, walk_to_begin};
 use gw_members::{Member, Memory, Tx};
 use slab::Slab;
 use std::alloc::Global;
@@ -26,7 +26,7 @@ pub struct DelayList {
     links: Slab<Link<Member>>,
     // How many members there are.
     count: usize,
-    // Where the walk has come: to a member, or to the end.
+    // Where the walk has come: to a member, or to the end; or it is still to begin.
     walk: Walk,
 }
 
@@ -36,14 +36,14 @@ impl Model for DelayList {
     ghost use Rattle.gw_chains.specs.Waiting.{Walked};
     ghost use Rattle.gw_chains.specs.Slots.{row_room};
     ghost use Rattle.gw_chains.specs.Buckets.{members_of, AreCounted};
-    ghost use Rattle.gw_chains.specs.Spots.{place_at, IsWalk};
+    ghost use Rattle.gw_chains.specs.Spots.{place_at, IsWalkOrBegins};
     ghost use Rattle.gw_members.specs.declared.tx.Member.{Member};
 
     ghost Value = { Walked };
 
     ghost invariant = { λ l.
         AreCounted (λ (m : Member). neg_ℤ m.priority) (get l.links) l.buckets.items l.count
-        × IsWalk (get l.links) l.buckets.items l.walk };
+        × IsWalkOrBegins (get l.links) l.buckets.items l.walk };
 
     ghost view = { λ l. record {
       members = members_of (get l.links) l.buckets.items;
@@ -58,13 +58,11 @@ impl DelayList {
         ensures members { result.members ≡ [] }
         ensures place { result.place ≡ 0 }
     {
-        let buckets = VecDeque::new(alloc);
-        let walk = walk_from(&buckets, 0);
         DelayList {
-            buckets,
+            buckets: VecDeque::new(alloc),
             links: Slab::new(alloc),
             count: 0,
-            walk,
+            walk: walk_to_begin(),
         }
     }
 
@@ -120,7 +118,7 @@ impl DelayList {
         let member = Member { tx, priority };
         insert_behind(&mut self.buckets, &mut self.links, member);
         self.count += 1;
-        self.walk = walk_from(&self.buckets, 0);
+        self.walk = walk_to_begin();
     }
 
     /// Removes the member at this place, from 0. There is one. The walk is at the first again.
@@ -133,7 +131,7 @@ impl DelayList {
     {
         remove_member(&mut self.buckets, &mut self.links, place);
         self.count -= 1;
-        self.walk = walk_from(&self.buckets, 0);
+        self.walk = walk_to_begin();
     }
 
     /// Begins a walk at the first member.
@@ -142,7 +140,7 @@ impl DelayList {
         ensures place { self.new.place ≡ 0 }
         ensures room { self.old.room ≤ self.new.room }
     {
-        self.walk = walk_from(&self.buckets, 0);
+        self.walk = walk_to_begin();
     }
 
     /// The transaction to which the walk has come, if it is not at the end.
@@ -151,10 +149,11 @@ impl DelayList {
             ≡ option_map (λ m. m.tx) (slice_get self.now.members self.now.place) }
         ensures there { IsSome result ↔ (self.now.place < length self.now.members) }
     {
-        if self.walk.left == 0 {
+        let walk = begin_walk(self.walk, &self.buckets, &self.links);
+        if walk.left == 0 {
             return None;
         }
-        Some(self.links[self.walk.here].member.tx)
+        Some(self.links[walk.here].member.tx)
     }
 
     /// The walk goes on past the member to which it has come. It is not at the end.
@@ -164,7 +163,9 @@ impl DelayList {
         ensures place { self.new.place ≡ self.old.place + 1 }
         ensures room { self.old.room ≤ self.new.room }
     {
-        advance(&mut self.walk, &self.buckets, &self.links);
+        let mut walk = begin_walk(self.walk, &self.buckets, &self.links);
+        advance(&mut walk, &self.buckets, &self.links);
+        self.walk = walk;
     }
 
     /// Takes out the member to which the walk has come, which is then at the next. It is not at
@@ -176,10 +177,10 @@ impl DelayList {
         ensures place { self.new.place ≡ self.old.place }
         ensures room { self.old.room ≤ self.new.room }
     {
-        let Walk { spot, here, .. } = self.walk;
-        let _ = unlink(&mut self.buckets, &mut self.links, spot, here);
+        let walk = begin_walk(self.walk, &self.buckets, &self.links);
+        let _ = unlink(&mut self.buckets, &mut self.links, walk.spot, walk.here);
         self.count -= 1;
-        self.walk = walk_at(&self.buckets, &self.links, spot);
+        self.walk = walk_at(&self.buckets, &self.links, walk.spot);
     }
 }
 

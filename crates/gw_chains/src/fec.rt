@@ -1,6 +1,6 @@
 //! The future events chain.
 
-ghost use Rattle.std.specs.Prelude.{◌≡◌, ◌≤◌, ◌<◌, ◌+◌, ◌^◌, ◌++◌, [], length, reverse, AllPairs, insert, if◌then◌else◌, option_map, is_some, int_le, OnOk, OnErr, IsPermutation};
+ghost use Rattle.std.specs.Prelude.{◌≡◌, ◌≤◌, ◌<◌, ◌+◌, ◌^◌, ◌++◌, ◌∷◌, List, [], length, reverse, AllPairs, insert, if◌then◌else◌, option_map, is_some, int_le, OnOk, OnErr, IsPermutation};
 ghost use Rattle.std.specs.Iterator.{YieldsFirstRef, item_count};
 ghost use Rattle.std.specs.Vec.{vec_capacity};
 ghost use Rattle.gw_members.specs.Chain.{in_time, due, first, rest};
@@ -58,6 +58,21 @@ fn is_no_later(one: Event, other: Event) -> bool
     one.time <= other.time
 }
 
+/// Moves the last of few events, a newcomer, ahead of all that come no later. Of the others the first to come stands last.
+fn move_up(events: &mut [Event], newcomer: Event)
+    requires { 0 < length events.old }
+    ensures items { (others : List Event) → events.old ≡ others ++ newcomer ∷ [] →
+        reverse events.new ≡ in_time (λ e. e.time) newcomer (reverse others) }
+    ensures len { length events.new ≡ length events.old }
+{
+    let mut place = events.len() - 1;
+    while 0 < place && is_no_later(events[place - 1], newcomer) {
+        events[place] = events[place - 1];
+        place -= 1;
+    }
+    events[place] = newcomer;
+}
+
 /// Puts a newcomer among few events, of which the first to come stands last: ahead of all that come no later. There is room.
 fn insert_in_time(few: &mut Vec<Event>, newcomer: Event)
     requires { length few.old.items < vec_capacity few.old }
@@ -66,13 +81,8 @@ fn insert_in_time(few: &mut Vec<Event>, newcomer: Event)
     ensures len { length few.new.items ≡ length few.old.items + 1 }
     ensures capacity { vec_capacity few.new ≡ vec_capacity few.old }
 {
-    let mut place = few.len();
     few.push_reserved(newcomer);
-    while 0 < place && is_no_later(few[place - 1], newcomer) {
-        few[place] = few[place - 1];
-        place -= 1;
-    }
-    few[place] = newcomer;
+    move_up(few.as_mut_slice(), newcomer);
 }
 
 /// How many more events fit into the vector of few; none while there are some in buckets.

@@ -1,6 +1,6 @@
 //! Members in buckets that stand in one row: where few ranks occur.
 
-ghost use Rattle.std.specs.Prelude.{◌≡◌, ◌≤◌, ◌<◌, ◌+◌, ◌-◌, ◌^◌, ℕ, AllPairs, Some, IfSome, length, option_to_list, slice_get, remove, OnOk, OnErr};
+ghost use Rattle.std.specs.Prelude.{◌≡◌, ◌≤◌, ◌<◌, ◌+◌, ◌-◌, ◌^◌, ℕ, AllPairs, Some, true, false, IfSome, length, option_to_list, slice_get, remove, OnOk, OnErr};
 ghost use Rattle.std.specs.VecDeque.{deque_len, deque_capacity};
 ghost use Rattle.slab.specs.Slab.{get, ContainsKey, HasRoomFor};
 ghost use Rattle.gw_members.specs.Chain.{first};
@@ -32,19 +32,26 @@ pub(crate) fn reserve<T: Ranked>(
     ensures kept { row_room count row.old links.old ≤ row_room count row.new links.new }
     ensures refused { OnErr result (row_room count row.old links.old < more) }
 {
-    if more <= row_room(row, links, count) {
+    if has_room(row, links, count, more) {
         return Ok(());
     }
     reserve_more(row, links, count, more)
 }
 
-/// How many more members there is room for beside those that there are.
-fn row_room<T: Ranked>(row: &VecDeque<Bucket>, links: &Slab<Link<T>>, count: usize) -> usize
+/// Whether there is room for so many more members beside those that there are.
+fn has_room<T: Ranked>(
+    row: &VecDeque<Bucket>,
+    links: &Slab<Link<T>>,
+    count: usize,
+    more: usize,
+) -> bool
     requires { count ≤ 2 ^ 62 }
-    ensures { result ≡ row_room count row.now links.now }
+    ensures room { result ≡ true → more ≤ row_room count row.now links.now }
+    ensures lacks { result ≡ false → row_room count row.now links.now < more }
 {
-    let slots = links.capacity() - links.len();
-    slots.min(row.capacity() - row.len()).min(MOST - count)
+    more <= links.capacity() - links.len()
+        && more <= row.capacity() - row.len()
+        && more <= MOST - count
 }
 
 /// The same as `reserve`, where memory may have to be taken.

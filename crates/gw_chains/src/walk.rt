@@ -3,7 +3,7 @@
 ghost use Rattle.std.specs.Prelude.{◌≡◌, ◌≤◌, ◌<◌, ◌+◌, ◌^◌};
 ghost use Rattle.slab.specs.Slab.{get};
 ghost use Rattle.gw_chains.specs.Buckets.{total, AreBuckets};
-ghost use Rattle.gw_chains.specs.Spots.{count_at, first_at, place_at, IsSpot, IsWalk};
+ghost use Rattle.gw_chains.specs.Spots.{count_at, first_at, place_at, IsSpot, IsWalk, IsToBegin, IsWalkOrBegins};
 
 use crate::bucket::{Bucket, Link, Ranked};
 use crate::spot::{Spot, link_at, settle, start_of};
@@ -42,6 +42,35 @@ pub(crate) fn walk_from(row: &VecDeque<Bucket>, bucket: usize) -> Walk
         here: begun.first,
         left: begun.count,
     }
+}
+
+/// A walk that is still to begin: at the first member, if there is one.
+pub(crate) fn walk_to_begin() -> Walk
+    ensures { IsToBegin result }
+{
+    Walk {
+        spot: start_of(0),
+        here: 0,
+        left: 0,
+    }
+}
+
+/// A walk, begun where it was still to begin.
+pub(crate) fn begin_walk<T: Ranked>(
+    walk: Walk,
+    row: &VecDeque<Bucket>,
+    _links: &Slab<Link<T>>,
+) -> Walk
+    requires buckets { AreBuckets T.rank (get _links.now) row.now.items }
+    requires walk { IsWalkOrBegins (get _links.now) row.now.items walk }
+    ensures walk { IsWalk (get _links.now) row.now.items result }
+    ensures place { place_at row.now.items result.spot.bucket result.spot.passed
+        ≡ place_at row.now.items walk.spot.bucket walk.spot.passed }
+{
+    if walk.left == 0 {
+        return walk_from(row, walk.spot.bucket);
+    }
+    walk
 }
 
 /// The walk at a spot; where that is the end of a bucket, at the next one.
