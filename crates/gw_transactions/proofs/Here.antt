@@ -45,6 +45,11 @@ module _ (counts : List ℕ) (txs : List (Option LiveTransaction)) (counted : Ar
   counted-set less new number was t there fallen risen =
       λ block. omega (arith, fallen block, risen block, counted block, here-put number (Some was) (Some t) there block)
 
+  -- one changes, and goes to its block
+  pub counted-go : (new : List ℕ) (number : ℕ) (was t : LiveTransaction) → at None txs number ≡ Some was → ((block : ℕ) → at 0 new block + one_at block was ≡ at 0 counts block + one_at block t) → AreCounted new (put None txs number (Some t))
+  counted-go new number was t there gone =
+      λ block. omega (arith, gone block, counted block, here-put number (Some was) (Some t) there block)
+
   -- one changes, and stays at its block
   pub counted-kept : (number : ℕ) (was t : LiveTransaction) → at None txs number ≡ Some was → was.attributes.current ≡ t.attributes.current → AreCounted counts (put None txs number (Some t))
   counted-kept number was t there same =

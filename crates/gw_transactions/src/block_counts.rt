@@ -1,6 +1,6 @@
 //! How many there are at each block.
 
-ghost use Rattle.std.specs.Prelude.{◌≡◌, ◌≤◌, ◌<◌, ◌+◌, ◌^◌, ◌==◌, if◌then◌else◌, ℕ, IfOk, replicate};
+ghost use Rattle.std.specs.Prelude.{◌≡◌, ◌≤◌, ◌<◌, ◌+◌, ◌^◌, ◌==◌, if◌then◌else◌, ℕ, IfOk, length, replicate};
 ghost use Rattle.gw_num.specs.Table.{at};
 
 use gw_members::Memory;
@@ -9,6 +9,27 @@ use std::marker::Model;
 
 /// The greatest number of a block: an object has at most so many (docs/object-format.md).
 const LAST_BLOCK: usize = 4096;
+
+/// One more is at a block.
+fn raise(counts: &mut [usize], block: u16)
+    requires there { block < length counts.old }
+    requires few { at 0 counts.old block ≤ 2 ^ 62 }
+    ensures counts { (b : ℕ) → at 0 counts.new b
+        ≡ at 0 counts.old b + (if block == b then 1 else 0) }
+    ensures len { length counts.new ≡ length counts.old }
+{
+    counts[block as usize] += 1;
+}
+
+/// One that was at a block is there no more.
+fn lower(counts: &mut [usize], block: u16)
+    requires { 0 < at 0 counts.old block }
+    ensures counts { (b : ℕ) → at 0 counts.new b + (if block == b then 1 else 0)
+        ≡ at 0 counts.old b }
+    ensures len { length counts.new ≡ length counts.old }
+{
+    counts[block as usize] -= 1;
+}
 
 /// How many there are at each block, by its number from 1 to 4,096, and how many that were in none yet, at 0.
 #[derive(Debug, Drop)]
@@ -57,7 +78,20 @@ impl BlockCounts {
         requires few { at 0 self.old block ≤ 2 ^ 62 }
         ensures { (b : ℕ) → at 0 self.new b ≡ at 0 self.old b + (if block == b then 1 else 0) }
     {
-        self.counts[block as usize] += 1;
+        raise(self.counts.as_mut_slice(), block);
+    }
+
+    /// One goes from a block to another, which may be the same.
+    pub fn go(&mut self, from: u16, to: u16)
+        requires there { 0 < at 0 self.old from }
+        requires block { to ≤ 4096 }
+        requires few { at 0 self.old to ≤ 2 ^ 62 }
+        ensures { (b : ℕ) → at 0 self.new b + (if from == b then 1 else 0)
+            ≡ at 0 self.old b + (if to == b then 1 else 0) }
+    {
+        let counts = self.counts.as_mut_slice();
+        lower(counts, from);
+        raise(counts, to);
     }
 
     /// One that was at a block is there no more.
@@ -65,6 +99,6 @@ impl BlockCounts {
         requires { 0 < at 0 self.old block }
         ensures { (b : ℕ) → at 0 self.new b + (if block == b then 1 else 0) ≡ at 0 self.old b }
     {
-        self.counts[block as usize] -= 1;
+        lower(self.counts.as_mut_slice(), block);
     }
 }

@@ -279,8 +279,7 @@ impl Transactions {
         let was = attributes.current;
         attributes.current = current;
         attributes.next = next;
-        self.here.take(was);
-        self.here.add(current);
+        self.here.go(was, current);
     }
 
     /// The user chain, an entity by its number from 0, of which the transaction of a handle is a member, if it is of one.
