@@ -65,6 +65,13 @@ fn put_note(
                 " by their own seeds, and what the one draws is like what the other draws: give RMULT large seeds, as RMULT 748932582,1985072130 (planner study has seeds of its own)\n",
             )
         }
+        Note::OtherStream(stream) => {
+            put_number(out, "random numbers come from stream ", stream)?;
+            put(
+                out,
+                ", and gpssw run SEED sets stream 1 alone, so this one draws the same with each SEED: make many runs by planner study, runs or shard, or the object of one by planner object RUN\n",
+            )
+        }
         Note::ReadsAsAttribute(entity) => {
             put_entity(out, entities, entity)?;
             put(
@@ -107,18 +114,39 @@ pub(crate) fn put_notes(
     Ok(())
 }
 
-/// The notes on a model that was read.
+/// Whether a note is on a model of which a study is made, too: there each run has seeds for all streams.
+fn is_on_study(note: Note) -> bool {
+    !matches!(note, Note::OtherStream(_))
+}
+
+/// The notes on a study of what an object has, each in a line, behind what there is.
+fn put_notes_on_study(
+    alloc: Global,
+    out: &mut Vec<u8>,
+    parts: &Parts,
+    sources: &Sources,
+) -> Result<(), Memory> {
+    let notes = notes(alloc, parts)?;
+    for note in &notes {
+        if is_on_study(*note) {
+            put_note(out, parts.entities.as_slice(), &sources.blocks, *note)?;
+        }
+    }
+    Ok(())
+}
+
+/// The notes on a study of a model that was read.
 fn notes_on_model(alloc: Global, model: &Model) -> Result<Vec<u8>, Memory> {
     let mut out = Vec::new(alloc);
     if let Ok(verified) = assemble(alloc, model) {
         let sources = sources(alloc, model)?;
-        put_notes(alloc, &mut out, verified.object().parts(), &sources)?;
+        put_notes_on_study(alloc, &mut out, verified.object().parts(), &sources)?;
     }
     Ok(out)
 }
 
-/// The notes on a model text that is accepted, each in a line, as they stand in its explanation; none of one that is refused. `Err`
-/// where memory runs out.
+/// The notes on a model text that is accepted and of which a study is made, each in a line, as they stand in its explanation; that
+/// one seed doesn't reach all streams isn't noted, and nothing of a text that is refused. `Err` where memory runs out.
 pub fn notes_on(alloc: Global, text: &[u8]) -> Result<Vec<u8>, Memory> {
     match parse(alloc, text) {
         Ok(model) => {

@@ -1,5 +1,5 @@
 -- What is noted of a model that is accepted: it runs, but maybe not as its author thinks.
-use Rattle.std.specs.Prelude.{◌≡◌, ℕ, ◌+◌, List, [], ◌∷◌, codes, length, drop, Bool, true, ◌&&◌, Some, slice_get, map, Contains, nat_eq}
+use Rattle.std.specs.Prelude.{◌≡◌, ◌<◌, ℕ, ◌+◌, List, [], ◌∷◌, codes, length, drop, Bool, true, ◌&&◌, Some, slice_get, map, Contains, nat_eq}
 use Rattle.std.specs.List.{list_any, starts_with}
 use Rattle.gw_num.specs.Numerals.{is_number}
 use Rattle.gw_blocks.specs.declared.parts.Operand.{Operand}
@@ -8,7 +8,7 @@ use Rattle.gw_object.specs.declared.parts.Entity.{Entity}
 use Rattle.gw_object.specs.declared.parts.Parts.{Parts}
 use Rattle.gw_object.specs.declared.parts.TableState.{TableState}
 use Rattle.gw_notes.specs.declared.noting.Note.{Note}
-use Rattle.gw_notes.specs.declared.noting.Note.TheVariants.{OwnSeeds, ReadsAsAttribute, NothingCounts, HoldsAtEnd, OnlyGrows}
+use Rattle.gw_notes.specs.declared.noting.Note.TheVariants.{OwnSeeds, OtherStream, ReadsAsAttribute, NothingCounts, HoldsAtEnd, OnlyGrows}
 use Rattle.gw_notes.specs.Drawing.{draws}
 use Rattle.gw_notes.specs.Flowing.{only_grows, nothing_counts}
 
@@ -41,6 +41,7 @@ pub record HoldsUnits (parts : Parts) (place entity : ℕ) : Type 0 where
 -- what a note says is so
 abbrev pub Holds : Parts → Note → Type 0
 Holds parts (OwnSeeds first second) = (parts.seeds ≡ []) × (draws parts first ≡ true) × (draws parts second ≡ true)
+Holds parts (OtherStream stream) = (1 < stream) × (draws parts stream ≡ true)
 Holds parts (ReadsAsAttribute entity) = HasNameOfAttribute parts entity
 Holds parts NothingCounts = nothing_counts parts ≡ true
 Holds parts (HoldsAtEnd block entity) = (place : ℕ) × (block ≡ place + 1) × HoldsUnits parts place entity

@@ -20,6 +20,9 @@ pub enum Note {
     /// It draws from two streams, by their numbers from 1, and no seeds are given: their own seeds lie so close that what is drawn
     /// from the one is like what is drawn from the other.
     OwnSeeds(u8, u8),
+    /// It draws from a stream other than the first, which is given by its number: the one seed with which an object is run doesn't
+    /// reach that.
+    OtherStream(u8),
     /// The name of an entity, which is given by its number from 0, reads as an attribute.
     ReadsAsAttribute(u16),
     /// No block lets the termination count fall.
@@ -86,6 +89,14 @@ fn own_seeds(parts: &Parts) -> Option<Note>
     let first = stream_drawn(parts, 1)?;
     let second = stream_drawn(parts, first.saturating_add(1))?;
     Some(Note::OwnSeeds(first, second))
+}
+
+/// The first stream behind the first from which a model draws, if there is one.
+fn other_stream(parts: &Parts) -> Option<Note>
+    ensures { IfSome result (Holds parts.now) }
+{
+    let stream = stream_drawn(parts, 2)?;
+    Some(Note::OtherStream(stream))
 }
 
 /// Whether the name of an entity reads as an attribute.
@@ -172,6 +183,7 @@ pub fn notes(alloc: Global, parts: &Parts) -> Result<Vec<Note>, Memory>
 {
     let mut notes = Vec::new(alloc);
     add(parts, &mut notes, own_seeds(parts))?;
+    add(parts, &mut notes, other_stream(parts))?;
     add(parts, &mut notes, count_noted(parts))?;
     for number in 0..1024 {
         add(parts, &mut notes, name_noted(parts, number))?;
