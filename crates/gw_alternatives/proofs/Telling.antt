@@ -8,13 +8,13 @@ use Rattle.gw_answers.specs.declared.answer.Answer.{Answer}
 use Rattle.gw_comparison.specs.declared.point.Point.{Point}
 use Rattle.gw_figures.specs.Labels.{labels}
 use Rattle.gw_study.specs.Study.{AreResultsOf, IsResultsText}
-use Rattle.gw_study.specs.Table.{Adds, IsTable}
+use Rattle.gw_study.specs.Table.{Adds}
 use Rattle.gw_study.specs.declared.request.StudyRequest.{StudyRequest}
 use Rattle.gw_study.specs.declared.telling.Results.{Results}
 use Rattle.gw_alternatives.specs.declared.alternative.Alternative.{Alternative}
 use Rattle.gw_alternatives.specs.declared.alternatives.NoAlternative.{NoAlternative}
 use Rattle.gw_alternatives.specs.declared.form.Form.{Form}
-use Rattle.gw_alternatives.specs.Told.{AddsTable, AddsTableIn, head_line, IsAnswerAbout, IsPointBy, IsPointTable, IsToldOr, TellsAlternative}
+use Rattle.gw_alternatives.specs.Told.{AddsTableIn, head_line, IsAnswerAbout, IsPointBy, IsTableOf, IsToldOr, TellsAlternative}
 
 pub told_or : {E : Type 0} (Are : List Alternative → Type 0) (form : Form) (request : StudyRequest) (found : Result (Vec Alternative Global) NoAlternative) (a : Result Answer E)
     → IfOk found (λ all. Are all.items)
@@ -25,28 +25,21 @@ told_or Are form request (Ok all) (Err e) are h = tt
 told_or Are form request (Err none) (Ok a) are h = inr h
 told_or Are form request (Err none) (Err e) are h = tt
 
--- a head and a text are a table
-pub table_of : {E : Type 0} (r : Result (Unit {0}) E) (request : StudyRequest) (a : Alternative) (results : Results) (old head new text : List ℕ)
-    → head ≡ old ++ head_line a.name.items → IsResultsText (labels results.figures.items) results.runs.items request a.spec text
-    → OnOk r (new ≡ head ++ text ++ codes "\n") → OnOk r (AddsTable request a results old new)
-table_of (Ok u) request a results old head new text is told h = record { text = text; told = told; whole = h ∙ ap (λ x. x ++ text ++ codes "\n") is }
-table_of (Err e) request a results old head new text is told h = tt
-
--- a head and the table of runs are the table of a point
-pub point_table_of : {E : Type 0} (r : Result (Unit {0}) E) (name : List ℕ) (results : Results) (request : StudyRequest) (count : ℕ) (old head new table : List ℕ)
-    → head ≡ old ++ head_line name → IsTable (labels results.figures.items) results.runs.items request count table
-    → OnOk r (new ≡ head ++ table ++ codes "\n") → OnOk r (Adds (IsPointTable name results request count) old new)
-point_table_of (Ok u) name results request count old head new table is told h = (
+-- a head and what is told of runs are a table
+pub table_of : {E : Type 0} (r : Result (Unit {0}) E) (name : List ℕ) (results : Results) (request : StudyRequest) (count : ℕ) (old head new table : List ℕ)
+    → head ≡ old ++ head_line name → IsResultsText (labels results.figures.items) results.runs.items request count table
+    → OnOk r (new ≡ head ++ table ++ codes "\n") → OnOk r (Adds (IsTableOf name results request count) old new)
+table_of (Ok u) name results request count old head new table is told h = (
   head_line name ++ table ++ codes "\n",
   (table, told, refl),
   h ∙ ap (λ x. x ++ table ++ codes "\n") is ∙ append_assoc (old ++ head_line name) table (codes "\n")
       ∙ append_assoc old (head_line name) (table ++ codes "\n") ∙ ap (λ x. old ++ x) (sym (append_assoc (head_line name) table (codes "\n"))),
 )
-point_table_of (Err e) name results request count old head new table is told h = tt
+table_of (Err e) name results request count old head new table is told h = tt
 
 -- the runs of an alternative, its table and its point are what is told of it
 pub told_by : {E : Type 0} (r : Result Point E) (form : Form) (request : StudyRequest) (a : Alternative) (results : Results) (old new : List ℕ)
-    → AreResultsOf a.spec request results → AddsTableIn form request a results old new → IfOk r (IsPointBy request a results)
+    → AreResultsOf a.spec request results → AddsTableIn form request a results old new → IfOk r (IsPointBy request.all a.name.items results)
     → IfOk r (λ point. TellsAlternative form request a point old new)
 told_by (Ok point) form request a results old new runs table h = record { results = results; runs = runs; point_is = h; table = table }
 told_by (Err e) form request a results old new runs table h = tt

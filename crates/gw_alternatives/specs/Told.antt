@@ -9,7 +9,7 @@ use Rattle.gw_comparison.specs.Differences.{AddsDifferences}
 use Rattle.gw_comparison.specs.Sheets.{AddsEach, AddsSheet}
 use Rattle.gw_comparison.specs.declared.point.Column.{Column}
 use Rattle.gw_comparison.specs.declared.point.Point.{Point}
-use Rattle.gw_study.specs.Table.{is_ended_so, IsTable}
+use Rattle.gw_study.specs.Table.{is_ended_so, Adds}
 use Rattle.gw_study.specs.Study.{AreResultsOf, IsResultsText}
 use Rattle.gw_study.specs.declared.request.StudyRequest.{StudyRequest}
 use Rattle.gw_study.specs.declared.telling.Results.{Results}
@@ -45,11 +45,11 @@ series_from all runs place (figure ∷ rest) =
     if all || figure.main then series_at runs place figure ∷ series_from all runs (place + 1) rest
     else series_from all runs (place + 1) rest
 
--- a point has the name of an alternative, and what results say
-pub record IsPointBy (request : StudyRequest) (a : Alternative) (results : Results) (point : Point) : Type 0 where
-  pub name : point.name.items ≡ a.name.items
+-- a point has a name, and what results say
+pub record IsPointBy (all : Bool) (called : List ℕ) (results : Results) (point : Point) : Type 0 where
+  pub name : point.name.items ≡ called
   pub columns : map series_of point.columns.items
-      ≡ series_from request.all results.runs.items 0 (labels results.figures.items)
+      ≡ series_from all results.runs.items 0 (labels results.figures.items)
 
 -- TABLES
 
@@ -57,21 +57,15 @@ pub record IsPointBy (request : StudyRequest) (a : Alternative) (results : Resul
 unfoldable pub head_line : List ℕ → List ℕ
 head_line name = codes "POINT " ++ name ++ codes "\n"
 
--- the head of an alternative, what is told of its results, and an empty line
-pub record AddsTable (request : StudyRequest) (a : Alternative) (results : Results) (old new : List ℕ) : Type 0 where
-  pub text : List ℕ
-  pub told : IsResultsText (labels results.figures.items) results.runs.items request a.spec text
-  pub whole : new ≡ (old ++ head_line a.name.items) ++ text ++ codes "\n"
-
--- the head of a point of a name, the table of its runs alone, and an empty line
-abbrev pub IsPointTable : List ℕ → Results → StudyRequest → ℕ → List ℕ → Type 0
-IsPointTable name results request count text =
-    (table : List ℕ) × IsTable (labels results.figures.items) results.runs.items request count table
-    × (text ≡ head_line name ++ table ++ codes "\n")
+-- the head of an alternative of a name, what is told of its results, and an empty line
+abbrev pub IsTableOf : List ℕ → Results → StudyRequest → ℕ → List ℕ → Type 0
+IsTableOf name results request count text =
+    (told : List ℕ) × IsResultsText (labels results.figures.items) results.runs.items request count told
+    × (text ≡ head_line name ++ told ++ codes "\n")
 
 -- that, where tables are asked for
 abbrev pub AddsTableIn : Form → StudyRequest → Alternative → Results → List ℕ → List ℕ → Type 0
-AddsTableIn Table request a results old new = AddsTable request a results old new
+AddsTableIn Table request a results old new = Adds (IsTableOf a.name.items results request a.spec.count) old new
 AddsTableIn Csv request a results old new = new ≡ old
 AddsTableIn (Picture figure) request a results old new = new ≡ old
 
@@ -79,7 +73,7 @@ AddsTableIn (Picture figure) request a results old new = new ≡ old
 pub record TellsAlternative (form : Form) (request : StudyRequest) (a : Alternative) (point : Point) (old new : List ℕ) : Type 0 where
   pub results : Results
   pub runs : AreResultsOf a.spec request results
-  pub point_is : IsPointBy request a results point
+  pub point_is : IsPointBy request.all a.name.items results point
   pub table : AddsTableIn form request a results old new
 
 -- all alternatives are, one after the other

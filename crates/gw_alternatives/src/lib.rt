@@ -11,4 +11,4 @@ pub use alternative::Alternative;
 pub use alternatives::{NoAlternative, points_by_words};
 pub use answering::{compare, study_points};
 pub use form::Form;
-pub use told::{point_of, put_point_table};
+pub use told::{point_of, put_block, put_table};

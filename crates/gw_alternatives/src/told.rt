@@ -6,7 +6,7 @@ ghost use Rattle.gw_comparison.specs.Sheets.{AddsEach};
 ghost use Rattle.gw_study.specs.Requests.{MayBeStudied};
 ghost use Rattle.gw_study.specs.Table.{Adds};
 ghost use Rattle.gw_alternatives.specs.Told as model;
-ghost use Rattle.gw_alternatives.specs.Told.{AddsAllDifferences, AddsBlock, AddsRest, AddsTable, AreTold, IsPointBy, TellsAlternative, TellsAlternatives, series_of};
+ghost use Rattle.gw_alternatives.specs.Told.{AddsAllDifferences, AddsBlock, AddsRest, AreTold, IsPointBy, TellsAlternative, TellsAlternatives, series_of};
 
 use crate::alternative::Alternative;
 use crate::form::Form;
@@ -14,7 +14,7 @@ use gw_comparison::{Column, Point, put_differences, put_picture, put_sheet};
 use gw_figures::{Figure, Run};
 use gw_object::Memory;
 use gw_scan::End;
-use gw_study::{Results, StudyRequest, results, results_text, table};
+use gw_study::{Results, StudyRequest, results, results_text};
 use std::alloc::Global;
 use std::io::Eprint;
 use std::sync::Wait;
@@ -85,27 +85,12 @@ fn columns_of(
 /// figures are.
 pub fn point_of(alloc: Global, point: &[u8], results: &Results, all: bool) -> Result<Point, Memory>
     requires { vec_len results.now.runs ≤ 512 }
-    ensures name { IfOk result (λ made. made.name.items ≡ point.now) }
-    ensures columns { IfOk result (λ made. map series_of made.columns.items
-        ≡ model.series_from all results.now.runs.items 0 (labels results.now.figures.items)) }
+    ensures { IfOk result (IsPointBy all point.now results.now) }
 {
     let mut name = Vec::new(alloc);
     name.extend_from_slice(point)?;
     let columns = columns_of(alloc, &results.figures, &results.runs, all)?;
     Ok(Point { name, columns })
-}
-
-/// The point of an alternative, by what its runs say.
-fn point_by(
-    alloc: Global,
-    alternative: &Alternative,
-    results: &Results,
-    request: &StudyRequest,
-) -> Result<Point, Memory>
-    requires { vec_len results.now.runs ≤ 512 }
-    ensures { IfOk result (IsPointBy request.now alternative.now results.now) }
-{
-    point_of(alloc, &alternative.name, results, request.all)
 }
 
 /// The line above the table of an alternative.
@@ -126,39 +111,22 @@ fn put_ended(out: &mut Vec<u8>, text: &[u8]) -> Result<(), Memory>
     out.extend_from_slice(b"\n")
 }
 
-/// The head and the table of a point of a name, whose runs, at most 512, have this count, and an empty line.
-pub fn put_point_table(
+/// The head of an alternative of a name, what is told of its runs, at most 512, which have this count, and an empty line.
+pub fn put_table(
     alloc: Global,
     out: &mut Vec<u8>,
-    point: &[u8],
+    name: &[u8],
     results: &Results,
     request: &StudyRequest,
     count: u64,
 ) -> Result<(), Memory>
     requires runs { vec_len results.now.runs ≤ 512 }
     requires count { count ≤ 2 ^ 40 }
-    ensures { OnOk result (Adds (model.IsPointTable point.now results.now request.now count)
+    ensures { OnOk result (Adds (model.IsTableOf name.now results.now request.now count)
         out.old.items out.new.items) }
 {
-    put_head(out, point)?;
-    let table = table(alloc, results, request, count)?;
-    put_ended(out, &table)
-}
-
-/// The head of an alternative, what is told of its results, and an empty line.
-fn put_table(
-    alloc: Global,
-    out: &mut Vec<u8>,
-    alternative: &Alternative,
-    results: &Results,
-    request: &StudyRequest,
-) -> Result<(), Memory>
-    requires { vec_len results.now.runs ≤ 512 }
-    ensures { OnOk result
-        (AddsTable request.now alternative.now results.now out.old.items out.new.items) }
-{
-    put_head(out, &alternative.name)?;
-    let text = results_text(alloc, &alternative.spec, results, request)?;
+    put_head(out, name)?;
+    let text = results_text(alloc, results, request, count)?;
     put_ended(out, &text)
 }
 
@@ -176,7 +144,14 @@ fn put_table_in(
         out.old.items out.new.items) }
 {
     match form {
-        Form::Table => put_table(alloc, out, alternative, results, request),
+        Form::Table => put_table(
+            alloc,
+            out,
+            &alternative.name,
+            results,
+            request,
+            alternative.spec.count(),
+        ),
         Form::Csv | Form::Picture(_) => Ok(()),
     }
 }
@@ -196,7 +171,7 @@ fn point_told<W: Threads + Wait + Sync + Eprint>(
 {
     let results = results(rt, alloc, &alternative.spec, request)?;
     put_table_in(alloc, out, alternative, &results, form, request)?;
-    point_by(alloc, alternative, &results, request)
+    point_of(alloc, &alternative.name, &results, request.all)
 }
 
 /// Runs all alternatives, one after the other.
@@ -220,7 +195,7 @@ fn points_told<W: Threads + Wait + Sync + Eprint>(
 }
 
 /// The differences of a point to the first, and an empty line.
-fn put_block(
+pub fn put_block(
     alloc: Global,
     out: &mut Vec<u8>,
     first: &Point,

@@ -18,6 +18,6 @@ mod window;
 pub use figure::Figure;
 pub use labels::figures;
 pub use model_values::values;
-pub use run::Run;
+pub use run::{Overdraw, Run};
 pub use trends::{changes, difference};
 pub use window::Window;

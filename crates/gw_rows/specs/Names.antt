@@ -8,9 +8,9 @@ use Rattle.gw_figures.specs.Labels.{Label}
 abbrev pub source_names : List (List ℕ)
 source_names = codes "model" ∷ codes "rows" ∷ codes "point" ∷ codes "count" ∷ codes "from" ∷ []
 
--- which run it is, how it ended, and after how many steps
+-- which run it is, how it ended, after how many steps, and from which streams it may have drawn more numbers than are their own
 abbrev pub end_names : List (List ℕ)
-end_names = codes "run" ∷ codes "end" ∷ codes "steps" ∷ []
+end_names = codes "run" ∷ codes "end" ∷ codes "steps" ∷ codes "streams" ∷ []
 
 -- rows tell how a figure changes
 abbrev pub has_trend : Label → Bool

@@ -1,5 +1,5 @@
 -- Rows: a run, and of what it is one, as a line of CSV.
-use Rattle.std.specs.Prelude.{ℕ, ◌+◌, ◌==◌, List, [], ◌∷◌, ◌++◌, map, ℤ, Option, Vec, if◌then◌else◌}
+use Rattle.std.specs.Prelude.{ℕ, ◌+◌, ◌==◌, List, [], ◌∷◌, ◌++◌, map, codes, ℤ, Option, Vec, if◌then◌else◌}
 use Rattle.std.specs.Fmt.{decimal}
 use Rattle.std.specs.Global.{Global}
 use Rattle.csv.specs.Writing.{row_text, default_writer}
@@ -7,6 +7,7 @@ use Rattle.gw_scan.specs.declared.sim.Status.TheVariants.{Ended}
 use Rattle.gw_report.specs.Report.{status_word}
 use Rattle.gw_figures.specs.Labels.{Label}
 use Rattle.gw_figures.specs.Trends.{value_at}
+use Rattle.gw_figures.specs.declared.run.Overdraw.{Overdraw}
 use Rattle.gw_figures.specs.declared.run.Run.{Run}
 use Rattle.gw_rows.specs.Amounts.{amount_field}
 use Rattle.gw_rows.specs.Names.{has_trend}
@@ -36,9 +37,24 @@ source_of o = record { model = o.model.items; rows = o.rows; point = o.point.ite
 abbrev pub source_fields : Source → List (List ℕ)
 source_fields s = s.model ∷ rows_field s.rows ∷ s.point ∷ decimal s.count ∷ decimal s.from ∷ []
 
--- which run it is, how it ended, and after how many steps
+-- a stream from which a run may have drawn more numbers than are its own, as `RN1=2200001/2097136`: so many of so many
+unfoldable pub overdraw_text : Overdraw → List ℕ
+overdraw_text o = codes "RN" ++ decimal o.stream ++ codes "=" ++ decimal o.most ++ codes "/" ++ decimal o.own
+
+-- what stands before the one at a place
+abbrev pub between : ℕ → List ℕ
+between place = if place == 0 then [] else codes " "
+
+-- those that follow one another, from a place on, with blanks between them
+unfoldable pub overdraws_text : ℕ → List Overdraw → List ℕ
+overdraws_text place [] = []
+overdraws_text place (o ∷ rest) =
+    between place ++ overdraw_text o ++ overdraws_text (place + 1) rest
+
+-- which run it is, how it ended, after how many steps, and from which streams it may have drawn more numbers than are their own
 abbrev pub end_fields : ℕ → Run → List (List ℕ)
-end_fields number run = decimal number ∷ status_word (Ended run.end) ∷ decimal run.steps ∷ []
+end_fields number run =
+    decimal number ∷ status_word (Ended run.end) ∷ decimal run.steps ∷ overdraws_text 0 run.overdraws.items ∷ []
 
 -- the changes of figures of which rows tell that
 abbrev pub trend_field : Label → Option ℤ → List (List ℕ)

@@ -86,7 +86,7 @@ pub(crate) fn amount_field(alloc: Global, amount: Option<i128>) -> Result<Vec<u8
 }
 
 /// The number that digits spell; other bytes, and digits past 2^128, give another number.
-fn whole_in(digits: &[u8]) -> u128 {
+pub(crate) fn whole_in(digits: &[u8]) -> u128 {
     let mut value: u128 = 0;
     for digit in digits {
         value = value

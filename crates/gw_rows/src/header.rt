@@ -12,7 +12,7 @@ use gw_object::Memory;
 use std::alloc::Global;
 
 /// How many fields each row has before those of its figures.
-pub(crate) const FIXED: usize = 8;
+pub(crate) const FIXED: usize = 9;
 
 /// What stands before the name of an average or a content in the name of its change.
 const TREND: &[u8] = b"TREND ";
@@ -53,6 +53,7 @@ fn put_end_names(alloc: Global, fields: &mut Vec<Vec<u8>>) -> Result<(), Memory>
     fields.push(copy_of(alloc, b"run")?)?;
     fields.push(copy_of(alloc, b"end")?)?;
     fields.push(copy_of(alloc, b"steps")?)?;
+    fields.push(copy_of(alloc, b"streams")?)?;
     Ok(())
 }
 

@@ -10,6 +10,7 @@ mod ends;
 mod header;
 pub mod laws;
 mod origin;
+mod overdraws;
 mod reading;
 mod record;
 mod refusal;

@@ -9,6 +9,7 @@ use crate::amounts::{amount_in, number_in};
 use crate::ends::end_in;
 use crate::header::{FIXED, has_trend, is_line};
 use crate::origin::Origin;
+use crate::overdraws::overdraws_in;
 use crate::record::{copy_of, parts_of};
 use crate::row::{Row, put_row};
 use gw_figures::{Figure, Run};
@@ -73,11 +74,13 @@ fn trends_in(
 fn run_in(alloc: Global, parts: &[&[u8]], figures: &[Figure]) -> Result<Run, Memory> {
     let values = values_in(alloc, parts, figures.len())?;
     let trend = trends_in(alloc, parts, figures)?;
+    let overdraws = overdraws_in(alloc, part_at(parts, 8))?;
     Ok(Run {
         end: end_in(part_at(parts, 6)).unwrap_or(End::Done),
         steps: number_in(part_at(parts, 7)),
         values,
         trend,
+        overdraws,
     })
 }
 

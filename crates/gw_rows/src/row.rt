@@ -11,6 +11,7 @@ use crate::amounts::amount_field;
 use crate::ends::word_of;
 use crate::header::has_trend;
 use crate::origin::Origin;
+use crate::overdraws::overdraws_field;
 use crate::record::{copy_of, put_owned};
 use gw_figures::{Figure, Run};
 use gw_object::Memory;
@@ -59,7 +60,7 @@ fn put_origin(alloc: Global, fields: &mut Vec<Vec<u8>>, origin: &Origin) -> Resu
     Ok(())
 }
 
-/// The fields of which run it is and how it ended.
+/// The fields of which run it is, how it ended, and what it may have drawn.
 fn put_end(alloc: Global, fields: &mut Vec<Vec<u8>>, number: u32, run: &Run) -> Result<(), Memory>
     ensures { OnOk result (texts fields.new.items
         ≡ texts fields.old.items ++ model.end_fields number run.now) }
@@ -67,6 +68,7 @@ fn put_end(alloc: Global, fields: &mut Vec<Vec<u8>>, number: u32, run: &Run) -> 
     fields.push(number_field(alloc, number)?)?;
     fields.push(copy_of(alloc, word_of(run.end).as_bytes())?)?;
     fields.push(number_field(alloc, run.steps)?)?;
+    fields.push(overdraws_field(alloc, &run.overdraws)?)?;
     Ok(())
 }
 

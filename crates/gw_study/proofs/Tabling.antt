@@ -7,6 +7,6 @@ use Rattle.gw_study.specs.declared.telling.Results.{Results}
 use Rattle.gw_study.specs.Study.{AreResultsOf, IsResultsText, IsTold}
 
 pub told : (j : Job) (request : StudyRequest) (results : Results) (text : List ℕ) → AreResultsOf j request results
-    → IsResultsText (labels results.figures.items) results.runs.items request j text → IsTold j request text
+    → IsResultsText (labels results.figures.items) results.runs.items request j.count text → IsTold j request text
 told j request results text h is =
-    (results.runs.items, h.number, h.runs, subst (λ (figures : List Label). IsResultsText figures results.runs.items request j text) h.figures is)
+    (results.runs.items, h.number, h.runs, subst (λ (figures : List Label). IsResultsText figures results.runs.items request j.count text) h.figures is)

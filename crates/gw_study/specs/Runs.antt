@@ -16,6 +16,7 @@ use Rattle.gw_answers.specs.Status.{run_budget}
 use Rattle.gw_study.specs.declared.one_run.Stops.{Stops}
 use Rattle.gw_study.specs.declared.runs.Setup.{Setup}
 use Rattle.gw_study.specs.Seeds.{seeds_of_run}
+use Rattle.gw_study.specs.Streams.{overdraws_of}
 
 -- STATES OF A RUN
 
@@ -53,8 +54,8 @@ window j from s t =
     }
 
 -- what is kept of a run: its end and steps; the values of the window from the first state in which so
--- many are counted to the last state; and by how much averages and contents change from its first half to
--- its second
+-- many are counted to the last state; by how much averages and contents change from its first half to its
+-- second; and the streams from which it may have drawn more numbers than are their own
 pub record IsRunOf (j : Job) (from : ℕ) (run : Run) : Type 0 where
   pub start : State
   pub middle : State
@@ -68,6 +69,7 @@ pub record IsRunOf (j : Job) (from : ℕ) (run : Run) : Type 0 where
   pub trend : run.trend.items
       ≡ changes (labels_of j.parts) (values_of j.parts (window j from start middle))
       (values_of j.parts (window j from middle last))
+  pub overdraws : run.overdraws.items ≡ overdraws_of j.parts run.steps run.values.items
 
 -- the same of a run that ended so, by the figures of these states
 pub record IsKept (parts : Parts) (figures : List Label) (whole : Bool) (by_end : End) (stops : Stops) (run : Run) : Type 0 where
@@ -77,6 +79,7 @@ pub record IsKept (parts : Parts) (figures : List Label) (whole : Bool) (by_end 
   pub trend : run.trend.items
       ≡ changes figures (values_of parts (record { whole = whole; start = stops.start; end = stops.middle }))
       (values_of parts (record { whole = whole; start = stops.middle; end = stops.last }))
+  pub overdraws : run.overdraws.items ≡ overdraws_of parts run.steps run.values.items
 
 -- OF A JOB'S OBJECT
 

@@ -26,12 +26,12 @@ pub record AreResultsOf (j : Job) (request : StudyRequest) (results : Results) :
   pub number : length results.runs.items ≡ request.runs
   pub runs : AreRunsFrom j request.from (first_run request) results.runs.items
 
--- the table of figures and runs of a job's object, and the lines of streams that may have come to where the
--- next begins
-pub record IsResultsText (figures : List Label) (runs : List Run) (request : StudyRequest) (j : Job) (text : List ℕ) : Type 0 where
+-- the table of figures and runs of this count, and the lines of streams that may have come to where the next
+-- begins
+pub record IsResultsText (figures : List Label) (runs : List Run) (request : StudyRequest) (count : ℕ) (text : List ℕ) : Type 0 where
   pub table : List ℕ
-  pub told : IsTable figures runs request j.count table
-  pub whole : text ≡ table ++ streams_text j.parts runs
+  pub told : IsTable figures runs request count table
+  pub whole : text ≡ table ++ streams_text runs
 
 -- the runs of a job's object from one number to another, but not that one, with the figures of its model
 pub record AreResultsBetween (j : Job) (from first end : ℕ) (results : Results) : Type 0 where
@@ -44,7 +44,7 @@ abbrev pub IsTold : Job → StudyRequest → List ℕ → Type 0
 IsTold j request text =
     (runs : List Run) × (length runs ≡ request.runs)
     × AreRunsFrom j request.from (first_run request) runs
-    × IsResultsText (labels_of j.parts) runs request j text
+    × IsResultsText (labels_of j.parts) runs request j.count text
 
 -- the job of a text with this count
 abbrev pub IsCountedJob : List ℕ → ℕ → Job → Type 0

@@ -16,6 +16,5 @@ pub mod text;
 
 pub use request::{MOST_RUNS, StudyRequest};
 pub use seeds::seeds_of;
-pub use streams::put_streams;
 pub use studying::{job_of_text, results, results_between, results_text, study};
-pub use telling::{Results, table};
+pub use telling::Results;

@@ -1,6 +1,6 @@
 //! One run of a study.
 
-ghost use Rattle.std.specs.Prelude.{◌≡◌, ◌⊎◌, ◌<◌, ◌<ℤ◌, ◌≤ℤ◌, pos, None, Some, true, false, IfOk, OnOk, length};
+ghost use Rattle.std.specs.Prelude.{◌≡◌, ◌⊎◌, ◌<◌, ◌≤◌, ◌<ℤ◌, ◌≤ℤ◌, pos, None, Some, true, false, IfOk, OnOk, length, ◌^◌};
 ghost use Rattle.gw_step.specs.Job.{IsFinal, IsReached, Step};
 ghost use Rattle.gw_report.specs.Figures.{figures_of};
 ghost use Rattle.gw_figures.specs.Labels.{labels, labels_of};
@@ -8,6 +8,7 @@ ghost use Rattle.gw_study.specs.Runs as model;
 ghost use Rattle.gw_study.specs.Runs.{IsBeforeCount, IsFirstWith, IsLast, IsRunOf, IsKept, run_job};
 
 use crate::seeds::seeds_of;
+use crate::streams::overdraws_of;
 use gw_answers::{BUDGET, run_to_end};
 use gw_figures::{Figure, Run, Window, changes, values};
 use gw_object::{Memory, Parts};
@@ -77,6 +78,7 @@ fn kept(
     end: End,
     stops: &Stops,
 ) -> Result<Run, Memory>
+    requires { length parts.now.blocks ≤ 2 ^ 32 }
     ensures { IfOk result (IsKept parts.now (labels figures.now) whole end stops.now) }
 {
     let whole_window = Window {
@@ -98,11 +100,14 @@ fn kept(
     let after = values(alloc, parts, &second_half)?;
     let trend = changes(alloc, figures, &before, &after)?;
     let values = values(alloc, parts, &whole_window)?;
+    let steps = stops.last.steps();
+    let overdraws = overdraws_of(alloc, parts, steps, &values)?;
     Ok(Run {
         end,
-        steps: stops.last.steps(),
+        steps,
         values,
         trend,
+        overdraws,
     })
 }
 

@@ -1,6 +1,6 @@
 //! A study of a model text.
 
-ghost use Rattle.std.specs.Prelude.{◌≡◌, ◌≤◌, vec_len, IfOk};
+ghost use Rattle.std.specs.Prelude.{◌≡◌, ◌≤◌, ◌^◌, vec_len, IfOk};
 ghost use Rattle.gw_model_jobs.specs.ModelJobs.{IsJobOf, Finds};
 ghost use Rattle.gw_answers.specs.Status.{ended};
 ghost use Rattle.gw_figures.specs.Labels.{labels};
@@ -75,20 +75,21 @@ pub fn results<T: Threads + Sync + Eprint>(
     Ok(Results { figures, runs })
 }
 
-/// What a study tells of the runs of a job's object: the table ([`table`]), and the streams that may have come to where the next
-/// begins ([`put_streams`]).
+/// What a study tells of runs of this count, of which there are at most 512: the table, and the streams that may have come to where
+/// the next begins.
 pub fn results_text(
     alloc: Global,
-    spec: &Spec,
     results: &Results,
     request: &StudyRequest,
+    count: u64,
 ) -> Result<Vec<u8>, Memory>
-    requires { vec_len results.now.runs ≤ 512 }
+    requires runs { vec_len results.now.runs ≤ 512 }
+    requires count { count ≤ 2 ^ 40 }
     ensures { IfOk result (λ text. IsResultsText (labels results.now.figures.items)
-        results.now.runs.items request.now spec.now text.items) }
+        results.now.runs.items request.now count text.items) }
 {
-    let mut text = table(alloc, results, request, spec.count())?;
-    put_streams(&mut text, spec.verified().object().parts(), &results.runs)?;
+    let mut text = table(alloc, results, request, count)?;
+    put_streams(&mut text, &results.runs)?;
     Ok(text)
 }
 
@@ -131,7 +132,7 @@ fn studied<T: Threads + Sync + Eprint>(
 {
     let results = results(rt, alloc, spec, request)?;
     Ok(Answer {
-        text: results_text(alloc, spec, &results, request)?,
+        text: results_text(alloc, &results, request, spec.count())?,
         status: ENDED,
     })
 }

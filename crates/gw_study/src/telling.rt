@@ -272,7 +272,7 @@ fn suggestion(count: u64, from: u64) -> u64
 /// What a study of this count tells of its results: how many runs there are and how they ended, a row for each figure of the runs
 /// that came to their count, how many more runs would halve the half-widths, which averages change in the window, and which contents
 /// grow to its end.
-pub fn table(
+pub(crate) fn table(
     alloc: Global,
     results: &Results,
     request: &StudyRequest,

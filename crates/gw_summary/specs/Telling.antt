@@ -1,16 +1,18 @@
 -- What rows of one study tell.
-use Rattle.std.specs.Prelude.{◌≡◌, ◌⊎◌, ◌≤◌, ◌<◌, ℕ, ◌-◌, ◌/◌, ◌%◌, nat_le, List, [], ◌∷◌, ◌++◌, length, vec_len, slice_get, Option, None, Some, Vec}
+use Rattle.std.specs.Prelude.{◌≡◌, ◌⊎◌, ◌≤◌, ◌<◌, ℕ, ◌+◌, ◌-◌, ◌/◌, ◌%◌, nat_le, List, [], ◌∷◌, ◌++◌, length, vec_len, slice_get, Option, None, Some, Bool, Vec}
 use Rattle.std.specs.Global.{Global}
 use Rattle.std.specs.List.{All}
 use Rattle.gw_answers.specs.Status.{ended, refused}
 use Rattle.gw_figures.specs.Labels.{Label, labels}
 use Rattle.gw_figures.specs.declared.run.Run.{Run}
-use Rattle.gw_study.specs.Table.{IsTable}
+use Rattle.gw_study.specs.Study.{IsResultsText}
+use Rattle.gw_study.specs.Table.{Adds}
 use Rattle.gw_study.specs.declared.request.StudyRequest.{StudyRequest}
 use Rattle.gw_study.specs.declared.telling.Results.{Results}
-use Rattle.gw_alternatives.specs.Told.{IsPointTable}
-use Rattle.gw_rows.specs.Reading.{IsHeaderOf, IsLineOf}
-use Rattle.gw_rows.specs.declared.row.Row.{Row}
+use Rattle.gw_comparison.specs.declared.point.Point.{Point}
+use Rattle.gw_alternatives.specs.Told.{IsTableOf, IsPointBy, AddsBlock, AddsAllDifferences}
+use Rattle.gw_rows.specs.Reading.{IsHeaderOf, IsLine}
+use Rattle.gw_rows.specs.Rows.{Source, row}
 use Rattle.gw_summary.specs.Adding.{has}
 use Rattle.gw_summary.specs.declared.point.PointRows.{PointRows}
 use Rattle.gw_summary.specs.declared.rows.Rows.{Rows}
@@ -42,26 +44,37 @@ pub record AreComplete (points : List PointRows) (seeds : ℕ) : Type 0 where
 
 -- WHAT THEY TELL
 
--- the run that a line tells, if there is a line: that of a row whose line it is
-abbrev pub IsRunOfLine : List Label → Line → Option Run → Type 0
-IsRunOfLine labels None run = run ≡ None
-IsRunOfLine labels (Some line) run = (row : Row) × IsLineOf labels line.items row × (run ≡ Some row.run)
+-- of what the runs of a point are some
+abbrev pub source : Study → List ℕ → Source
+source study point = record {
+  model = study.origin.model.items;
+  rows = study.origin.rows;
+  point = point;
+  count = study.origin.count;
+  from = study.origin.from;
+}
+
+-- the run that the line of a number tells, if there is a line: that of the row which it is
+abbrev pub IsRunOfLine : List Label → Source → ℕ → Line → Option Run → Type 0
+IsRunOfLine labels source number None run = run ≡ None
+IsRunOfLine labels source number (Some line) run = (told : Run) × IsLine line.items (row labels source number told) × (run ≡ Some told)
 
 -- a run before others, if it is there
 abbrev pub with_run : Option Run → List Run → List Run
 with_run None runs = runs
 with_run (Some run) runs = run ∷ runs
 
--- the runs that lines tell, in order
-unfoldable pub LinesTell : List Label → List Line → List Run → Type 0
-LinesTell labels [] runs = runs ≡ []
-LinesTell labels (line ∷ lines) runs =
-    (run : Option Run) × (rest : List Run) × IsRunOfLine labels line run × LinesTell labels lines rest × (runs ≡ with_run run rest)
+-- the runs that lines tell, in order, the first of which has this number
+unfoldable pub LinesTell : List Label → Source → ℕ → List Line → List Run → Type 0
+LinesTell labels source number [] runs = runs ≡ []
+LinesTell labels source number (line ∷ lines) runs =
+    (run : Option Run) × (rest : List Run) × IsRunOfLine labels source number line run
+    × LinesTell labels source (number + 1) lines rest × (runs ≡ with_run run rest)
 
 -- the figures that the header names, and the runs that the lines of a point tell
-pub record AreResultsOf (rows : Rows) (point : PointRows) (results : Results) : Type 0 where
+pub record AreResultsOf (rows : Rows) (study : Study) (point : PointRows) (results : Results) : Type 0 where
   pub figures : IsHeaderOf rows.header.items results.figures.items
-  pub runs : LinesTell (labels results.figures.items) point.lines.items results.runs.items
+  pub runs : LinesTell (labels results.figures.items) (source study point.name.items) 0 point.lines.items results.runs.items
 
 -- what a study is asked for that has these runs
 abbrev pub study_request : Study → SummaryRequest → ℕ → StudyRequest
@@ -74,34 +87,57 @@ study_request study request runs = record {
   all = request.all;
 }
 
--- the table of the model as it is
+-- the same of these results
+abbrev pub asked_of : Study → SummaryRequest → Results → StudyRequest
+asked_of study request results = study_request study request (vec_len results.runs)
+
+-- what is told of the model as it is
 abbrev pub IsModelTold : Rows → Study → SummaryRequest → PointRows → List ℕ → Type 0
 IsModelTold rows study request point text =
-    (results : Results) × AreResultsOf rows point results
-    × IsTable (labels results.figures.items) results.runs.items (study_request study request (vec_len results.runs)) study.origin.count text
+    (results : Results) × AreResultsOf rows study point results
+    × IsResultsText (labels results.figures.items) results.runs.items (asked_of study request results) study.origin.count text
 
--- the table of a point, with its head, is added
-abbrev pub AddsTable : Rows → Study → SummaryRequest → PointRows → List ℕ → List ℕ → Type 0
-AddsTable rows study request point old new =
-    (results : Results) × (text : List ℕ) × AreResultsOf rows point results
-    × IsPointTable point.name.items results (study_request study request (vec_len results.runs)) study.origin.count text
-    × (new ≡ old ++ text)
+-- what is told of a point: its table, and what its runs say
+pub record TellsPoint (rows : Rows) (study : Study) (request : SummaryRequest) (point : PointRows) (told : Point) (old new : List ℕ) : Type 0 where
+  pub results : Results
+  pub runs : AreResultsOf rows study point results
+  pub point_is : IsPointBy request.all point.name.items results told
+  pub table : Adds (IsTableOf point.name.items results (asked_of study request results) study.origin.count) old new
 
--- those of points, one behind the other
-unfoldable pub AddsTables : Rows → Study → SummaryRequest → List PointRows → List ℕ → List ℕ → Type 0
-AddsTables rows study request [] old new = new ≡ old
-AddsTables rows study request (point ∷ points) old new =
-    (middle : List ℕ) × AddsTable rows study request point old middle × AddsTables rows study request points middle new
+-- all points are, one after the other
+unfoldable pub TellsPoints : Rows → Study → SummaryRequest → List PointRows → List Point → List ℕ → List ℕ → Type 0
+TellsPoints rows study request [] told old new = (told ≡ []) × (new ≡ old)
+TellsPoints rows study request (point ∷ points) told old new =
+    (first : Point) × (others : List Point) × (middle : List ℕ) × (told ≡ first ∷ others)
+    × TellsPoint rows study request point first old middle × TellsPoints rows study request points others middle new
 
--- the tables of all points, and something behind them
+-- the tables of points are added, and these are the differences of each to the first
+abbrev pub AddsTables : Rows → Study → SummaryRequest → List PointRows → List ℕ → List ℕ → List ℕ → Type 0
+AddsTables rows study request points differences old new =
+    (told : List Point) × TellsPoints rows study request points told old new × AddsAllDifferences request.all told [] differences
+
+-- the tables of all points, and behind them the differences of each to the first
 abbrev pub ArePointsTold : Rows → Study → SummaryRequest → List ℕ → Type 0
 ArePointsTold rows study request text =
-    (tables : List ℕ) × (behind : List ℕ) × AddsTables rows study request rows.points.items [] tables × (text ≡ tables ++ behind)
+    (tables : List ℕ) × (differences : List ℕ) × AddsTables rows study request rows.points.items differences [] tables
+    × (text ≡ tables ++ differences)
 
 -- what is told of all rows of a study: the table of the one model that there is, as it is, or those of points
 abbrev pub TellsRows : Rows → Study → SummaryRequest → List ℕ → Type 0
 TellsRows rows study request text =
     ((point : PointRows) × (rows.points.items ≡ point ∷ []) × IsModelTold rows study request point text) ⊎ ArePointsTold rows study request text
+
+-- POINT BY POINT
+
+-- the first of points, if there is one
+abbrev pub first_of : List Point → Option Point
+first_of [] = None
+first_of (point ∷ points) = Some point
+
+-- the differences of one more point to the first are added; or it is the first
+abbrev pub AddsNext : Bool → Option Point → Point → Option Point → List ℕ → List ℕ → Type 0
+AddsNext all None point first old new = (first ≡ Some point) × (new ≡ old)
+AddsNext all (Some known) point first old new = (first ≡ Some known) × AddsBlock all known point old new
 
 -- what is answered: that, of rows that are complete, or a refusal
 abbrev pub IsSummary : Rows → SummaryRequest → List ℕ → ℕ → Type 0

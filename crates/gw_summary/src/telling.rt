@@ -1,9 +1,10 @@
 //! What rows tell.
 
-ghost use Rattle.std.specs.Prelude.{◌≡◌, ◌≤◌, ◌+◌, ◌++◌, [], Some, length, IfOk, IfNone, IfSome, OnOk, vec_len};
+ghost use Rattle.std.specs.Prelude.{◌≡◌, ◌≤◌, ◌+◌, ◌++◌, [], Some, length, IfOk, IfNone, IfSome, IsTrue, OnOk, vec_len};
 ghost use Rattle.std.specs.List.{All};
 ghost use Rattle.gw_figures.specs.Labels.{labels};
 ghost use Rattle.gw_rows.specs.Reading.{IsHeaderOf};
+ghost use Rattle.gw_rows.specs.Rows.{source_of};
 ghost use Rattle.gw_summary.specs.Telling as model;
 ghost use Rattle.gw_answers.specs.Status.{refused as refused_status};
 
@@ -12,14 +13,14 @@ use crate::pieces::Pieces;
 use crate::point::PointRows;
 use crate::rows::Rows;
 use crate::study::Study;
-use gw_alternatives::{point_of, put_point_table};
+use gw_alternatives::{point_of, put_block, put_table};
 use gw_answers::Answer;
 use gw_answers::status::{ENDED, REFUSED};
-use gw_comparison::{Point, put_differences};
+use gw_comparison::Point;
 use gw_figures::{Figure, Run};
 use gw_object::Memory;
-use gw_rows::{Refused, figures_in, row_in};
-use gw_study::{Results, StudyRequest, table};
+use gw_rows::{Refused, Row, figures_in, row_in};
+use gw_study::{Results, StudyRequest, results_text};
 use std::alloc::Global;
 
 /// What a summary is asked for.
@@ -108,13 +109,48 @@ fn gap_of<'a>(rows: &'a Rows, study: &Study, seeds: u32) -> Option<Gap<'a>>
     }
 }
 
-/// The run of a line, if there is one. Each line that was taken is that of a row; another would be told as want of memory.
-fn run_of(alloc: Global, line: &Option<Vec<u8>>, figures: &[Figure]) -> Result<Option<Run>, Memory>
-    ensures { IfOk result (model.IsRunOfLine (labels figures.now) line.now) }
+/// Whether a row is that of a run of a point of a study.
+fn is_row_of(row: &Row, study: &Study, point: &[u8], number: usize) -> bool
+    ensures source { IsTrue result → source_of row.now.origin ≡ model.source study.now point.now }
+    ensures number { IsTrue result → row.now.number ≡ number }
+{
+    row.number as usize == number
+        && row.origin.model.as_slice() == study.origin.model.as_slice()
+        && row.origin.rows == study.origin.rows
+        && row.origin.point.as_slice() == point
+        && row.origin.count == study.origin.count
+        && row.origin.from == study.origin.from
+}
+
+/// The run of a row, where it is that of a number of a point. Each line that was taken is that of such a row; another would be told
+/// as want of memory.
+fn run_if_of(row: Row, study: &Study, point: &[u8], number: usize) -> Result<Option<Run>, Memory>
+    ensures run { IfOk result (λ run. run ≡ Some row.run) }
+    ensures source { OnOk result (source_of row.origin ≡ model.source study.now point.now) }
+    ensures number { OnOk result (row.number ≡ number) }
+{
+    if is_row_of(&row, study, point, number) {
+        Ok(Some(row.run))
+    } else {
+        drop(row);
+        Err(Memory)
+    }
+}
+
+/// The run of the line of a number, if there is a line.
+fn run_of(
+    alloc: Global,
+    line: &Option<Vec<u8>>,
+    figures: &[Figure],
+    study: &Study,
+    point: &[u8],
+    number: usize,
+) -> Result<Option<Run>, Memory>
+    ensures { IfOk result (model.IsRunOfLine (labels figures.now) (model.source study.now point.now) number line.now) }
 {
     match line {
         Some(line) => match row_in(alloc, line, figures)? {
-            Some(row) => Ok(Some(row.run)),
+            Some(row) => run_if_of(row, study, point, number),
             None => Err(Memory),
         },
         None => Ok(None),
@@ -135,14 +171,21 @@ fn push_run(runs: &mut Vec<Run>, run: Option<Run>) -> Result<(), Memory>
     }
 }
 
-/// The runs of lines, in order.
-fn runs_of(alloc: Global, lines: &[Option<Vec<u8>>], figures: &[Figure]) -> Result<Vec<Run>, Memory>
-    ensures tell { IfOk result (λ runs. model.LinesTell (labels figures.now) lines.now runs.items) }
+/// The runs of the lines of a point, in order.
+fn runs_of(
+    alloc: Global,
+    lines: &[Option<Vec<u8>>],
+    figures: &[Figure],
+    study: &Study,
+    point: &[u8],
+) -> Result<Vec<Run>, Memory>
+    ensures tell { IfOk result (λ runs.
+        model.LinesTell (labels figures.now) (model.source study.now point.now) 0 lines.now runs.items) }
     ensures few { IfOk result (λ runs. length runs.items ≤ length lines.now) }
 {
     let mut runs = Vec::new(alloc);
     for i in 0..lines.len() {
-        let run = run_of(alloc, &lines[i], figures)?;
+        let run = run_of(alloc, &lines[i], figures, study, point, i)?;
         push_run(&mut runs, run)?;
     }
     Ok(runs)
@@ -159,13 +202,18 @@ fn figures_of(alloc: Global, rows: &Rows) -> Result<Vec<Figure>, Memory>
 }
 
 /// The figures and runs of a point.
-fn results_of(alloc: Global, rows: &Rows, point: &PointRows) -> Result<Results, Memory>
+fn results_of(
+    alloc: Global,
+    rows: &Rows,
+    study: &Study,
+    point: &PointRows,
+) -> Result<Results, Memory>
     requires { vec_len point.now.lines ≤ 512 }
-    ensures results { IfOk result (model.AreResultsOf rows.now point.now) }
+    ensures results { IfOk result (model.AreResultsOf rows.now study.now point.now) }
     ensures few { IfOk result (λ results. vec_len results.runs ≤ 512) }
 {
     let figures = figures_of(alloc, rows)?;
-    let runs = runs_of(alloc, &point.lines, &figures)?;
+    let runs = runs_of(alloc, &point.lines, &figures, study, &point.name)?;
     Ok(Results { figures, runs })
 }
 
@@ -193,11 +241,12 @@ fn point_told(
     request: SummaryRequest,
 ) -> Result<Point, Memory>
     requires { vec_len point.now.lines ≤ 512 }
-    ensures { OnOk result (model.AddsTable rows.now study.now request point.now out.old.items out.new.items) }
+    ensures { IfOk result (λ told.
+        model.TellsPoint rows.now study.now request point.now told out.old.items out.new.items) }
 {
-    let results = results_of(alloc, rows, point)?;
+    let results = results_of(alloc, rows, study, point)?;
     let asked = study_request(study, request, results.runs.len() as u32);
-    put_point_table(
+    put_table(
         alloc,
         out,
         &point.name,
@@ -208,28 +257,31 @@ fn point_told(
     point_of(alloc, &point.name, &results, request.all)
 }
 
-/// A point, with its differences to the first; or as the first.
-fn put_differences_of(
+/// The differences of one more point to the first are put; or it is the first.
+fn put_next(
     alloc: Global,
     behind: &mut Vec<u8>,
     first: &mut Option<Point>,
     point: Point,
     all: bool,
-) -> Result<(), Memory> {
+) -> Result<(), Memory>
+    ensures { OnOk result (model.AddsNext all first.old point first.new behind.old.items behind.new.items) }
+{
     match first {
         Some(first) => {
-            let put = put_differences(alloc, behind, first, &point, all);
+            let put = put_block(alloc, behind, first, &point, all);
             drop(point);
-            put?;
-            behind.push(b'\n')?;
+            put
         }
-        None => *first = Some(point),
+        None => {
+            *first = Some(point);
+            Ok(())
+        }
     }
-    Ok(())
 }
 
-/// The tables of points, and for what stands behind them the differences of each to the first.
-#[tactic(auto, unfolding(crate::specs::Telling::AddsTables))]
+/// The tables of points, and for what stands behind them the differences of each to the first. No point but the first is kept, since
+/// there may be many.
 fn put_tables(
     alloc: Global,
     out: &mut Vec<u8>,
@@ -239,13 +291,15 @@ fn put_tables(
     points: &[PointRows],
     request: SummaryRequest,
 ) -> Result<(), Memory>
-    requires { All (λ p. vec_len p.lines ≤ 512) points.now }
-    ensures { OnOk result (model.AddsTables rows.now study.now request points.now out.old.items out.new.items) }
+    requires few { All (λ p. vec_len p.lines ≤ 512) points.now }
+    requires behind { behind.old.items ≡ [] }
+    ensures { OnOk result (model.AddsTables rows.now study.now request points.now behind.new.items
+        out.old.items out.new.items) }
 {
     let mut first: Option<Point> = None;
     for i in 0..points.len() {
         let point = point_told(alloc, out, rows, study, &points[i], request)?;
-        put_differences_of(alloc, behind, &mut first, point, request.all)?;
+        put_next(alloc, behind, &mut first, point, request.all)?;
     }
     Ok(())
 }
@@ -286,9 +340,9 @@ fn model_told(
     requires { vec_len point.now.lines ≤ 512 }
     ensures { IfOk result (λ text. model.IsModelTold rows.now study.now request point.now text.items) }
 {
-    let results = results_of(alloc, rows, point)?;
+    let results = results_of(alloc, rows, study, point)?;
     let asked = study_request(study, request, results.runs.len() as u32);
-    table(alloc, &results, &asked, study.origin.count)
+    results_text(alloc, &results, &asked, study.origin.count)
 }
 
 /// What all rows of a study tell.

@@ -5,5 +5,5 @@ use Rattle.gw_study.proofs.streams.put_streams.Goals as goal
 
 pub loop-stream-preserved : goal.loop-stream-preserved
 loop-stream-preserved c =
-    next_line c.args.parts.now c.args.runs.now c.loop-stream.stream c.loop-stream.out.items c.put_stream.new.out.items
-    (c.args.out.now.items ++ streams_from c.args.parts.now c.args.runs.now 1 16) (omega arith) c.loop-stream.invariant c.in_ok-put_stream.ensures
+    next_line c.args.runs.now c.loop-stream.stream c.greatest_of.result c.loop-stream.out.items c.put_stream.new.out.items
+    (c.args.out.now.items ++ streams_from c.args.runs.now 1 16) (omega arith) c.loop-stream.invariant c.greatest_of.ensures c.in_ok-put_stream.ensures
