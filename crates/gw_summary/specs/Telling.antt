@@ -1,5 +1,5 @@
 -- What rows of one study tell.
-use Rattle.std.specs.Prelude.{◌≡◌, ◌⊎◌, ◌≤◌, ◌<◌, ℕ, ◌+◌, ◌-◌, ◌/◌, ◌%◌, nat_le, List, [], ◌∷◌, ◌++◌, length, vec_len, slice_get, Option, None, Some, Bool, Vec}
+use Rattle.std.specs.Prelude.{◌≡◌, ◌⊎◌, ◌≤◌, ◌<◌, ℕ, ◌+◌, ◌-◌, ◌/◌, ◌%◌, nat_le, List, [], ◌∷◌, length, vec_len, slice_get, Option, None, Some, Bool, Vec}
 use Rattle.std.specs.Global.{Global}
 use Rattle.std.specs.List.{All}
 use Rattle.gw_answers.specs.Status.{ended, refused}
@@ -14,6 +14,7 @@ use Rattle.gw_alternatives.specs.Told.{IsTableOf, IsPointBy, AddsBlock, AddsAllD
 use Rattle.gw_rows.specs.Reading.{IsHeaderOf, IsLine}
 use Rattle.gw_rows.specs.Rows.{Source, row}
 use Rattle.gw_summary.specs.Adding.{has}
+use Rattle.gw_summary.specs.Keeping.{AreRowsOf}
 use Rattle.gw_summary.specs.declared.point.PointRows.{PointRows}
 use Rattle.gw_summary.specs.declared.rows.Rows.{Rows}
 use Rattle.gw_summary.specs.declared.study.Study.{Study}
@@ -116,11 +117,11 @@ abbrev pub AddsTables : Rows → Study → SummaryRequest → List PointRows →
 AddsTables rows study request points differences old new =
     (told : List Point) × TellsPoints rows study request points told old new × AddsAllDifferences request.all told [] differences
 
--- the tables of all points, and behind them the differences of each to the first
+-- the tables of all points, and behind them the differences of each to the first, as a study tells them
 abbrev pub ArePointsTold : Rows → Study → SummaryRequest → List ℕ → Type 0
 ArePointsTold rows study request text =
-    (tables : List ℕ) × (differences : List ℕ) × AddsTables rows study request rows.points.items differences [] tables
-    × (text ≡ tables ++ differences)
+    (told : List Point) × (tables : List ℕ) × TellsPoints rows study request rows.points.items told [] tables
+    × AddsAllDifferences request.all told tables text
 
 -- what is told of all rows of a study: the table of the one model that there is, as it is, or those of points
 abbrev pub TellsRows : Rows → Study → SummaryRequest → List ℕ → Type 0
@@ -139,8 +140,18 @@ abbrev pub AddsNext : Bool → Option Point → Point → Option Point → List 
 AddsNext all None point first old new = (first ≡ Some point) × (new ≡ old)
 AddsNext all (Some known) point first old new = (first ≡ Some known) × AddsBlock all known point old new
 
+-- no line waits, and none told a refusal
+abbrev pub HasOnlyRows : Rows → Type 0
+HasOnlyRows rows = (rows.waiting.items ≡ []) × (rows.refused ≡ None)
+
 -- what is answered: that, of rows that are complete, or a refusal
 abbrev pub IsSummary : Rows → SummaryRequest → List ℕ → ℕ → Type 0
 IsSummary rows request text status =
-    ((status ≡ ended) × ((study : Study) × (rows.study ≡ Some study) × AreComplete rows.points.items request.seeds × TellsRows rows study request text))
+    ((status ≡ ended) × HasOnlyRows rows
+    × ((study : Study) × (rows.study ≡ Some study) × AreComplete rows.points.items request.seeds × TellsRows rows study request text))
     ⊎ (status ≡ refused)
+
+-- what is answered about bytes: a summary of rows that keep just their lines that aren't headers, or a refusal
+abbrev pub IsSummaryOf : List ℕ → SummaryRequest → List ℕ → ℕ → Type 0
+IsSummaryOf bytes request text status =
+    ((rows : Rows) × AreRowsOf bytes rows.points.items × IsSummary rows request text status) ⊎ (status ≡ refused)

@@ -1,6 +1,7 @@
 //! Lines out of the pieces in which an input is read.
 
-ghost use Rattle.std.specs.Prelude.{◌≡◌};
+ghost use Rattle.std.specs.Prelude.{◌≡◌, ◌++◌, ◌∷◌, ℕ, List, [], IsFalse, OnOk};
+ghost use Rattle.gw_summary.specs.Keeping.{IsRead, IsWithoutFeed};
 
 use crate::fault::{NoRow, RowFault};
 use crate::rows::Rows;
@@ -22,7 +23,9 @@ pub struct Pieces {
 
 impl Pieces {
     /// Nothing was read.
-    pub fn new(alloc: Global) -> Pieces {
+    pub fn new(alloc: Global) -> Pieces
+        ensures { IsRead [] result }
+    {
         Pieces {
             rows: Rows::new(alloc),
             rest: Vec::new(alloc),
@@ -43,7 +46,10 @@ impl Pieces {
     }
 
     /// What comes of the line that isn't whole.
-    fn put(&mut self, bytes: &[u8]) -> Result<(), NoRow> {
+    fn put(&mut self, bytes: &[u8]) -> Result<(), NoRow>
+        requires { IsWithoutFeed bytes.now }
+        ensures { OnOk result ((before : List ℕ) → IsRead before self.old → IsRead (before ++ bytes.now) self.new) }
+    {
         if self.rest.len().saturating_add(bytes.len()) > LONGEST {
             return Err(NoRow::Fault(self.line(), RowFault::Long));
         }
@@ -54,7 +60,9 @@ impl Pieces {
     }
 
     /// A line that is whole.
-    fn end_line(&mut self, alloc: Global) -> Result<(), NoRow> {
+    fn end_line(&mut self, alloc: Global) -> Result<(), NoRow>
+        ensures { OnOk result ((before : List ℕ) → IsRead before self.old → IsRead (before ++ 10 ∷ []) self.new) }
+    {
         self.rows
             .add_line(alloc, self.lines.saturating_add(1), &self.rest)?;
         self.rest.clear();
@@ -63,7 +71,9 @@ impl Pieces {
     }
 
     /// One more piece of the input.
-    pub fn add(&mut self, alloc: Global, piece: &[u8]) -> Result<(), NoRow> {
+    pub fn add(&mut self, alloc: Global, piece: &[u8]) -> Result<(), NoRow>
+        ensures { OnOk result ((before : List ℕ) → IsRead before self.old → IsRead (before ++ piece.now) self.new) }
+    {
         let mut start = 0;
         for i in 0..piece.len() {
             if piece[i] == b'\n' {
@@ -76,7 +86,9 @@ impl Pieces {
     }
 
     /// Whether the last line is cut off.
-    pub fn is_cut(&self) -> bool {
+    pub fn is_cut(&self) -> bool
+        ensures { IsFalse result → self.now.rest.items ≡ [] }
+    {
         !self.rest.is_empty()
     }
 }

@@ -1,8 +1,9 @@
 //! The rows of a point.
 
-ghost use Rattle.std.specs.Prelude.{◌≡◌, ◌≤◌, ◌<◌, nat_le, vec_len, slice_get, Some, IfNone, IfOk, OnOk};
+ghost use Rattle.std.specs.Prelude.{◌≡◌, ◌≤◌, ◌<◌, ℕ, false, nat_le, vec_len, slice_get, Some, IfNone, IfOk, OnOk};
 ghost use Rattle.std.specs.List.{slice_set};
 ghost use Rattle.gw_summary.specs.Adding as model;
+ghost use Rattle.gw_summary.specs.Keeping.{AddsLine, OneMore, lines_at};
 ghost use Rattle.gw_summary.specs.Telling.{IsWhole};
 
 use crate::fault::RowFault;
@@ -33,7 +34,10 @@ pub(crate) enum Adding {
 
 /// Places for lines up to a number, but not that one, behind those that are there.
 fn fill(lines: &mut Vec<Option<Vec<u8>>>, end: usize) -> Result<(), Memory>
-    ensures { OnOk result (end ≤ vec_len lines.new) }
+    ensures long { OnOk result (end ≤ vec_len lines.new) }
+    ensures same { OnOk result (lines_at lines.new.items ≡ lines_at lines.old.items) }
+    ensures has { OnOk result ((n : ℕ) → model.has (slice_get lines.new.items n)
+        ≡ model.has (slice_get lines.old.items n)) }
 {
     for _ in lines.len()..end {
         lines.push(None)?;
@@ -43,8 +47,9 @@ fn fill(lines: &mut Vec<Option<Vec<u8>>>, end: usize) -> Result<(), Memory>
 
 /// A line at a place.
 fn put_line(lines: &mut Vec<Option<Vec<u8>>>, place: usize, line: Vec<u8>)
-    requires { place < vec_len lines.old }
-    ensures { lines.new.items ≡ slice_set lines.old.items place (Some line) }
+    requires place { place < vec_len lines.old }
+    requires free { model.has (slice_get lines.old.items place) ≡ false }
+    ensures { OneMore line.items (lines_at lines.old.items) (lines_at lines.new.items) }
 {
     lines[place] = Some(line);
 }
@@ -77,7 +82,9 @@ impl PointRows {
 
     /// The line of a run that wasn't there.
     fn put(&mut self, alloc: Global, number: usize, line: &[u8]) -> Result<(), Memory>
-        requires { number < 512 }
+        requires number { number < 512 }
+        requires free { model.has (slice_get self.old.lines.items number) ≡ false }
+        ensures { OnOk result (OneMore line.now (lines_at self.old.lines.items) (lines_at self.new.lines.items)) }
     {
         let copy = copy_of(alloc, line)?;
         fill(&mut self.lines, number + 1)?;
@@ -88,8 +95,10 @@ impl PointRows {
     /// The line of a run, with those that are there; a line that is there is left alone. It answers what the line did.
     pub(crate) fn add(&mut self, alloc: Global, number: u32, line: &[u8]) -> Result<Adding, Memory>
         requires { number < 512 }
-        ensures { IfOk result (λ adding.
+        ensures adding { IfOk result (λ adding.
             adding ≡ model.adding (slice_get self.old.lines.items number) line.now) }
+        ensures lines { IfOk result (λ adding.
+            AddsLine adding line.now (lines_at self.old.lines.items) (lines_at self.new.lines.items)) }
     {
         let number = number as usize;
         let adding = self.adding(number, line);

@@ -1,7 +1,9 @@
 //! The rows that were read so far.
 
-ghost use Rattle.std.specs.Prelude.{◌≡◌, ◌≤◌, ◌<◌, ◌^◌, vec_len, IfOk, IfSome, IsTrue};
+ghost use Rattle.std.specs.Prelude.{◌≡◌, ◌≤◌, ◌<◌, ◌^◌, ◌+◌, ◌++◌, ◌∷◌, [], true, vec_len, is_some, IfNone, IfOk, IfSome, IsTrue, OnOk};
+ghost use Rattle.std.specs.List.{insert};
 ghost use Rattle.gw_rows.specs.Reading.{IsInRange};
+ghost use Rattle.gw_summary.specs.Keeping.{HaveSame, IsHeader, Takes, kept_lines, waiting_lines};
 ghost use Rattle.gw_summary.specs.Studies as model;
 
 use crate::fault::{NoRow, RowFault};
@@ -61,9 +63,33 @@ pub struct Rows {
     count: u64,
 }
 
+/// A point before the one at a place.
+fn insert_point(points: &mut Vec<PointRows>, place: usize, point: PointRows) -> Result<(), Wrong>
+    requires { place ≤ vec_len points.old }
+    ensures items { OnOk result (points.new.items ≡ insert points.old.items place point) }
+    ensures len { OnOk result (vec_len points.new ≡ vec_len points.old + 1) }
+{
+    match points.insert(place, point) {
+        Ok(()) => Ok(()),
+        Err(_) => Err(Wrong::Memory),
+    }
+}
+
+/// A line behind those that wait.
+fn push_waiting(lines: &mut Vec<Waiting>, line: Waiting) -> Result<(), Wrong>
+    ensures { OnOk result (lines.new.items ≡ lines.old.items ++ line ∷ []) }
+{
+    match lines.push(line) {
+        Ok(()) => Ok(()),
+        Err(_) => Err(Wrong::Memory),
+    }
+}
+
 impl Rows {
     /// No row.
-    pub fn new(alloc: Global) -> Rows {
+    pub fn new(alloc: Global) -> Rows
+        ensures { kept_lines result ≡ [] }
+    {
         Rows {
             number: 0,
             waiting: Vec::new(alloc),
@@ -99,7 +125,9 @@ impl Rows {
     }
 
     /// What was refused, if a row tells that.
-    pub(crate) fn refused(&self) -> &Option<Refused> {
+    pub(crate) fn refused(&self) -> &Option<Refused>
+        ensures { result.now ≡ self.now.refused }
+    {
         &self.refused
     }
 
@@ -109,7 +137,9 @@ impl Rows {
     }
 
     /// The first header of runs.
-    fn begin(&mut self, alloc: Global, line: &[u8], figures: Vec<Figure>) -> Result<(), Wrong> {
+    fn begin(&mut self, alloc: Global, line: &[u8], figures: Vec<Figure>) -> Result<(), Wrong>
+        ensures { OnOk result (HaveSame self.old self.new) }
+    {
         let mut header = Vec::new(alloc);
         header.extend_from_slice(line)?;
         self.header = header;
@@ -118,7 +148,10 @@ impl Rows {
     }
 
     /// A line that may be a header of runs; none where it isn't one.
-    fn add_header(&mut self, alloc: Global, line: &[u8]) -> Result<bool, Wrong> {
+    fn add_header(&mut self, alloc: Global, line: &[u8]) -> Result<bool, Wrong>
+        ensures same { OnOk result (HaveSame self.old self.new) }
+        ensures header { IfOk result (λ found. IsTrue found → IsHeader line.now) }
+    {
         match figures_in(alloc, line)? {
             Some(figures) => {
                 if self.header.is_empty() {
@@ -202,7 +235,8 @@ impl Rows {
 
     /// A point without a row.
     fn add_point(&mut self, alloc: Global, name: &[u8], values: Vec<i64>) -> Result<usize, Wrong>
-        ensures { IfOk result (λ place. place < vec_len self.new.points) }
+        ensures place { IfOk result (λ place. place < vec_len self.new.points) }
+        ensures same { OnOk result (HaveSame self.old self.new) }
     {
         let place = self.place_for(&values);
         let mut copy = Vec::new(alloc);
@@ -212,15 +246,14 @@ impl Rows {
             values,
             lines: Vec::new(alloc),
         };
-        match self.points.insert(place, point) {
-            Ok(()) => Ok(place),
-            Err(_) => Err(Wrong::Memory),
-        }
+        insert_point(&mut self.points, place, point)?;
+        Ok(place)
     }
 
     /// The line of a run of the point at a place.
     fn add_at(&mut self, alloc: Global, place: usize, number: u32, line: &[u8]) -> Result<(), Wrong>
         requires { (place < vec_len self.old.points) × (number < 512) }
+        ensures { OnOk result (Takes (line.now ∷ []) self.old self.new) }
     {
         self.place = place;
         match self.points[place].add(alloc, number, line)? {
@@ -233,6 +266,30 @@ impl Rows {
         }
     }
 
+    /// The place of a point of these numbers, which is there then.
+    fn place_with(&mut self, alloc: Global, name: &[u8], values: Vec<i64>) -> Result<usize, Wrong>
+        ensures place { IfOk result (λ place. place < vec_len self.new.points) }
+        ensures same { OnOk result (HaveSame self.old self.new) }
+    {
+        match self.place_of(name) {
+            Some(place) => {
+                drop(values);
+                Ok(place)
+            }
+            None => self.add_point(alloc, name, values),
+        }
+    }
+
+    /// What rows have in common, if this one is the first.
+    fn begin_study(&mut self, origin: Origin, names: Vec<Vec<u8>>)
+        requires { (1 ≤ origin.count) × (origin.count ≤ 2 ^ 40) }
+        ensures { self.new ≡ record self.old { study = self.new.study } }
+    {
+        if self.study.is_none() {
+            self.study = Some(Study { origin, names });
+        }
+    }
+
     /// The row of a study that has these names, and its line.
     fn add_of_study(
         &mut self,
@@ -242,25 +299,19 @@ impl Rows {
         line: &[u8],
     ) -> Result<(), Wrong>
         requires { IsInRange row }
+        ensures { OnOk result (Takes (line.now ∷ []) self.old self.new) }
     {
         let Numbers { names, values } = numbers;
-        let place = match self.place_of(&row.origin.point) {
-            Some(place) => place,
-            None => self.add_point(alloc, &row.origin.point, values)?,
-        };
+        let place = self.place_with(alloc, &row.origin.point, values)?;
         let number = row.number;
-        if self.study.is_none() {
-            self.study = Some(Study {
-                origin: row.origin,
-                names,
-            });
-        }
+        self.begin_study(row.origin, names);
         self.add_at(alloc, place, number, line)
     }
 
     /// A row and its line.
     fn add_row(&mut self, alloc: Global, row: Row, line: &[u8]) -> Result<(), Wrong>
         requires { IsInRange row }
+        ensures { OnOk result (Takes (line.now ∷ []) self.old self.new) }
     {
         match numbers_in(alloc, &row.origin.point)? {
             Some(numbers) => match self.fault_of(&row.origin, &numbers.names) {
@@ -272,7 +323,10 @@ impl Rows {
     }
 
     /// A refusal.
-    fn add_refused(&mut self, refused: Refused) -> Result<(), Wrong> {
+    fn add_refused(&mut self, refused: Refused) -> Result<(), Wrong>
+        ensures same { OnOk result (kept_lines self.new ≡ kept_lines self.old) }
+        ensures refused { OnOk result (is_some self.new.refused ≡ true) }
+    {
         if !self.is_of_model(&refused.model) {
             return Err(Wrong::Fault(RowFault::OtherModel));
         }
@@ -292,7 +346,9 @@ impl Rows {
     }
 
     /// A line behind a header of runs: a row, or a refusal.
-    fn add_behind(&mut self, alloc: Global, line: &[u8]) -> Result<(), Wrong> {
+    fn add_behind(&mut self, alloc: Global, line: &[u8]) -> Result<(), Wrong>
+        ensures { OnOk result (Takes (line.now ∷ []) self.old self.new) }
+    {
         match row_in(alloc, line, &self.figures)? {
             Some(row) => self.add_row(alloc, row, line),
             None => match refused_in(alloc, line)? {
@@ -303,7 +359,9 @@ impl Rows {
     }
 
     /// A line before any header of runs: a refusal, or it waits.
-    fn add_before(&mut self, alloc: Global, line: &[u8]) -> Result<(), Wrong> {
+    fn add_before(&mut self, alloc: Global, line: &[u8]) -> Result<(), Wrong>
+        ensures { OnOk result (Takes (line.now ∷ []) self.old self.new) }
+    {
         match refused_in(alloc, line)? {
             Some(refused) => self.add_refused(refused),
             None => self.wait(alloc, line),
@@ -311,21 +369,22 @@ impl Rows {
     }
 
     /// A line that waits for a header.
-    fn wait(&mut self, alloc: Global, line: &[u8]) -> Result<(), Wrong> {
+    fn wait(&mut self, alloc: Global, line: &[u8]) -> Result<(), Wrong>
+        ensures { OnOk result (Takes (line.now ∷ []) self.old self.new) }
+    {
         let mut copy = Vec::with_capacity(alloc, line.len())?;
         copy.extend_from_slice(line)?;
         let waiting = Waiting {
             number: self.number,
             line: copy,
         };
-        match self.waiting.push(waiting) {
-            Ok(()) => Ok(()),
-            Err(_) => Err(Wrong::Memory),
-        }
+        push_waiting(&mut self.waiting, waiting)
     }
 
     /// A line that is no header.
-    fn add_other(&mut self, alloc: Global, line: &[u8]) -> Result<(), Wrong> {
+    fn add_other(&mut self, alloc: Global, line: &[u8]) -> Result<(), Wrong>
+        ensures { OnOk result (Takes (line.now ∷ []) self.old self.new) }
+    {
         if self.header.is_empty() {
             self.add_before(alloc, line)
         } else {
@@ -334,7 +393,9 @@ impl Rows {
     }
 
     /// The lines that waited.
-    fn add_waiting(&mut self, alloc: Global, waiting: &[Waiting]) -> Result<(), Wrong> {
+    fn add_waiting(&mut self, alloc: Global, waiting: &[Waiting]) -> Result<(), Wrong>
+        ensures { OnOk result (Takes (waiting_lines waiting.now) self.old self.new) }
+    {
         for i in 0..waiting.len() {
             self.number = waiting[i].number;
             self.add_behind(alloc, &waiting[i].line)?;
@@ -343,13 +404,17 @@ impl Rows {
     }
 
     /// The lines that waited, once there is a header.
-    fn add_all_waiting(&mut self, alloc: Global) -> Result<(), Wrong> {
+    fn add_all_waiting(&mut self, alloc: Global) -> Result<(), Wrong>
+        ensures { OnOk result (Takes [] self.old self.new) }
+    {
         let waiting = mem::replace(&mut self.waiting, Vec::new(alloc));
         self.add_waiting(alloc, &waiting)
     }
 
     /// One more line: a header, or a row.
-    fn add(&mut self, alloc: Global, line: &[u8]) -> Result<(), Wrong> {
+    fn add(&mut self, alloc: Global, line: &[u8]) -> Result<(), Wrong>
+        ensures { OnOk result (Takes (line.now ∷ []) self.old self.new) }
+    {
         if is_refusal_header(line) {
             return Ok(());
         }
@@ -363,7 +428,9 @@ impl Rows {
     /// One more line by its number, without its line feed: a header, or a row with the fields that the header names. A row that is
     /// there already changes nothing; one before any header waits for it. Where a line is refused, it is this one, or one that
     /// waited.
-    pub fn add_line(&mut self, alloc: Global, number: u64, line: &[u8]) -> Result<(), NoRow> {
+    pub fn add_line(&mut self, alloc: Global, number: u64, line: &[u8]) -> Result<(), NoRow>
+        ensures { OnOk result (Takes (line.now ∷ []) self.old self.new) }
+    {
         self.number = number;
         match self.add(alloc, line) {
             Ok(()) => Ok(()),
@@ -373,7 +440,9 @@ impl Rows {
     }
 
     /// The number of the first line that waits for a header, if one does.
-    pub(crate) fn first_waiting(&self) -> Option<u64> {
+    pub(crate) fn first_waiting(&self) -> Option<u64>
+        ensures { IfNone result (self.now.waiting.items ≡ []) }
+    {
         match self.waiting.as_slice() {
             [waiting, ..] => Some(waiting.number),
             [] => None,

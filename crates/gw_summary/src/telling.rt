@@ -1,10 +1,11 @@
 //! What rows tell.
 
-ghost use Rattle.std.specs.Prelude.{◌≡◌, ◌≤◌, ◌+◌, ◌++◌, [], Some, length, IfOk, IfNone, IfSome, IsTrue, OnOk, vec_len};
+ghost use Rattle.std.specs.Prelude.{◌≡◌, ◌≤◌, ◌+◌, ◌++◌, ℕ, List, [], Some, length, IfOk, IfNone, IfSome, IsTrue, OnOk, vec_len};
 ghost use Rattle.std.specs.List.{All};
 ghost use Rattle.gw_figures.specs.Labels.{labels};
 ghost use Rattle.gw_rows.specs.Reading.{IsHeaderOf};
 ghost use Rattle.gw_rows.specs.Rows.{source_of};
+ghost use Rattle.gw_summary.specs.Keeping.{IsRead};
 ghost use Rattle.gw_summary.specs.Telling as model;
 ghost use Rattle.gw_answers.specs.Status.{refused as refused_status};
 
@@ -379,7 +380,8 @@ fn summary_of(
     line: u64,
     request: SummaryRequest,
 ) -> Result<Answer, Memory>
-    requires { rows.now.study ≡ Some study.now }
+    requires study { rows.now.study ≡ Some study.now }
+    requires only { model.HasOnlyRows rows.now }
     ensures { IfOk result (λ a. model.IsSummary rows.now request a.text.items a.status) }
 {
     match gap_of(rows, study, request.seeds) {
@@ -410,6 +412,7 @@ fn rows_told(
     line: u64,
     request: SummaryRequest,
 ) -> Result<Answer, Memory>
+    requires { rows.now.waiting.items ≡ [] }
     ensures { IfOk result (λ a. model.IsSummary rows.now request a.text.items a.status) }
 {
     match (rows.refused(), rows.study()) {
@@ -438,7 +441,8 @@ fn lines_told(
 /// each, in the order of their numbers, and then the differences of each to the first. A refusal that a row tells is told. Rows are
 /// refused (84 Row) that aren't those of all runs of a study, each once, and a line that is cut off.
 pub fn summary(alloc: Global, pieces: &Pieces, request: SummaryRequest) -> Result<Answer, Memory>
-    ensures { IfOk result (λ a. model.IsSummary pieces.now.rows request a.text.items a.status) }
+    ensures { IfOk result (λ a. (bytes : List ℕ) → IsRead bytes pieces.now
+        → model.IsSummaryOf bytes request a.text.items a.status) }
 {
     if pieces.is_cut() {
         return refusal(alloc, pieces.line(), &[], RowFault::Cut);

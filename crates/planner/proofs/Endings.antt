@@ -149,5 +149,5 @@ summary_end rows request text status (inl h) = inl h.0
 summary_end rows request text status (inr h) = inr h
 
 pub summed_ends : (summing : Summing) → Ends (summed summing)
-summed_ends summing bytes text status (inl h) = summary_end h.0 _ text status h.1
+summed_ends summing bytes text status (inl h) = summary_end h.0 _ text status h.2
 summed_ends summing bytes text status (inr h) = inr h

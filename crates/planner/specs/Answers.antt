@@ -24,8 +24,7 @@ use Rattle.gw_command_line.specs.Options.{Choices}
 use Rattle.gw_command_line.specs.Words.{Act, Ask, Charts, Code, Help, Version, Studies, Compares, Rows, Sums, Object, Shares, Demand, RunsDemand, LoneDemand}
 use Rattle.gw_command_line.specs.declared.rows.Shard.{Shard}
 use Rattle.gw_command_line.specs.declared.rows.Summing.{Summing}
-use Rattle.gw_summary.specs.Telling.{IsSummary}
-use Rattle.gw_summary.specs.declared.rows.Rows.{Rows as RowsOfStudy}
+use Rattle.gw_summary.specs.Telling.{IsSummaryOf}
 use Rattle.gw_summary.specs.declared.telling.SummaryRequest.{SummaryRequest}
 use Rattle.gw_shards.specs.Objects.{IsObjectAnswer}
 use Rattle.gw_shards.specs.Rows.{AreRows}
@@ -156,9 +155,9 @@ of_front Asked bytes = Asked (take (MOST_BYTES + 1) bytes)
 abbrev pub summary_of : Summing → SummaryRequest
 summary_of summing = record { seeds = summing.seeds; all = summing.all }
 
--- what is told of rows that were read, or a refusal
+-- what the rows that stand on a reader tell, or a refusal
 abbrev pub summed : Summing → Answering
-summed summing bytes text status = ((rows : RowsOfStudy) × IsSummary rows (summary_of summing) text status) ⊎ (status ≡ refused)
+summed summing bytes text status = IsSummaryOf bytes (summary_of summing) text status
 
 -- the line on wrong words
 abbrev pub usage_line : List ℕ

@@ -1,12 +1,13 @@
 //! Runs on many machines: rows, shares, summaries, and the object of a run.
 
-ghost use Rattle.std.specs.Prelude.{◌≡◌, ◌+◌, false, IfOk, OnOk};
+ghost use Rattle.std.specs.Prelude.{◌≡◌, ◌+◌, ◌<◌, [], length, false, IfOk, OnOk};
 ghost use Rattle.gw_answers.specs.Status.{refused as refused_status};
 ghost use Rattle.gw_command_line.specs.Asking.{AreRunsFit, IsRunFit, IsShardFit};
 ghost use Rattle.gw_command_line.specs.Rows.{runs_view, lone_view};
 ghost use Rattle.gw_console.specs.Output.{AnswersReader, Delivers};
 ghost use Rattle.gw_console.specs.Calls.{LosesFront, LosesAtMost, TellsReads, TellsCalls};
-ghost use Rattle.planner.specs.Reading.{TellsRows};
+ghost use Rattle.gw_summary.specs.Keeping.{IsRead};
+ghost use Rattle.planner.specs.Reading.{ReadsAll, ReadsPiece, TellsRows};
 ghost use Rattle.planner.specs.Answers.{rows_asked, rows_request_of, share_asked, object_asked, of_front, summed};
 
 use crate::studies::words_of;
@@ -201,8 +202,10 @@ fn read_piece<R: Read>(
     buffer: &mut [u8],
     pieces: &mut Pieces,
 ) -> Result<usize, NoRows>
-    requires { reader.old.failed ≡ false }
-    ensures { TellsRows result reader.new.failed }
+    requires reader { reader.old.failed ≡ false }
+    requires room { 0 < length buffer.old }
+    ensures told { TellsRows result reader.new.failed }
+    ensures read { IfOk result (λ count. ReadsPiece count reader.old.left reader.new.left pieces.old pieces.new) }
 {
     match reader.read(buffer) {
         Ok(count) => match pieces.add(alloc, &buffer[..count]) {
@@ -213,14 +216,16 @@ fn read_piece<R: Read>(
     }
 }
 
-/// Reads rows to their end, or to a line that is refused.
+/// Reads rows to their end, or to a line that is refused. More reads than the loop has would be told as want of memory.
 fn read_pieces<R: Read>(
     alloc: Global,
     reader: &mut Input<R>,
     pieces: &mut Pieces,
 ) -> Result<(), NoRows>
-    requires { reader.old.failed ≡ false }
-    ensures { TellsRows result reader.new.failed }
+    requires reader { reader.old.failed ≡ false }
+    requires none { IsRead [] pieces.old }
+    ensures told { TellsRows result reader.new.failed }
+    ensures read { OnOk result (ReadsAll reader.old.left pieces.new) }
 {
     let mut buffer = [0; PIECE];
     for _ in 0..u64::MAX {
@@ -228,7 +233,7 @@ fn read_pieces<R: Read>(
             return Ok(());
         }
     }
-    Ok(())
+    Err(NoRows::Row(NoRow::Memory))
 }
 
 /// The answer that refuses a line.

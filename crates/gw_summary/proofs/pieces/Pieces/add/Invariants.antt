@@ -1,6 +1,6 @@
--- the line at hand begins no later than here
-use Rattle.std.proofs.Common.{◌≤◌}
+-- what stands before the line at hand is read, and there is no line feed in it so far
+use Rattle.gw_summary.proofs.Reading.{IsReadTo}
 use Rattle.gw_summary.proofs.pieces.Pieces.add.Given as goal
 
 abbrev pub invariant-loop-i : goal.invariant-loop-i
-invariant-loop-i l = l.start ≤ l.i
+invariant-loop-i l = IsReadTo l.piece l.start l.i l.fn.self l.self

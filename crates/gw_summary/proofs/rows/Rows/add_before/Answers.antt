@@ -1,0 +1,8 @@
+use Rattle.gw_summary.proofs.Taking.{refusal_added}
+use Rattle.gw_summary.proofs.rows.Rows.add_before.Goals as goal
+
+pub returns-in-Some : goal.returns-in-Some
+returns-in-Some c =
+    let told = rw c.in-Some.is at c.in_ok-refused.ensures in
+    refusal_added c.add_refused.result c.args.line.now c.args.self.now c.add_refused.new.self
+    (c.in-Some.refused.model.items, c.in-Some.refused.text.items, told) c.add_refused.ensures.same c.add_refused.ensures.refused

@@ -1,0 +1,12 @@
+use Rattle.std.proofs.Common.{◌++◌, ◌∙◌, refl, ap}
+use Rattle.gw_summary.specs.Keeping.{lines_of, lines_at, waiting_lines}
+use Rattle.gw_summary.proofs.Keeping.{point_inserted}
+use Rattle.gw_summary.proofs.rows.Rows.add_point.Goals as goal
+
+pub returns-clause-same : goal.returns-clause-same
+returns-clause-same c =
+    let old = c.args.self.now in (
+      ap (λ ls. ls ++ waiting_lines old.waiting.items)
+          (ap lines_of c.in_ok-insert_point.ensures.items ∙ point_inserted old.points.items c.place_for-place.result _ (ap lines_at c.new.ensures.items)),
+      refl,
+    )
