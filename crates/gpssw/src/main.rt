@@ -7,47 +7,28 @@ pub mod program;
 mod tests;
 pub mod words;
 
-use gw_console::{ProgramFault, deliver};
+use gw_console::{deliver, words_given};
 use gw_streams::{Input, Output};
 use program::dispatch;
-use std::alloc::AllocError;
+use std::io;
 use std::io::IsTerminal;
 use std::process::ExitCode;
-use std::{env, io};
 
 /// The program over standard input and output. Words that aren't text are wrong words.
 fn main(rt: HostRuntime) -> ExitCode {
     let mut reader = Input::new(rt.reader());
     let mut writer = Output::new(io::writer(&rt));
     let is_terminal = rt.stderr().is_terminal();
-    let status = match env::args(&rt) {
-        Ok(mut args) => {
-            let _ = args.next();
-            let words: Result<Vec<String>, AllocError> = args.collect(rt.alloc());
-            match words {
-                Ok(words) => dispatch(
-                    &rt,
-                    rt.alloc(),
-                    &words,
-                    is_terminal,
-                    &mut reader,
-                    &mut writer,
-                ),
-                Err(_) => deliver(&mut writer, Err(ProgramFault::Memory)),
-            }
-        }
-        Err(error) if error.kind() == io::ErrorKind::OutOfMemory => deliver(
-            &mut writer,
-            Err(ProgramFault::Memory),
-        ),
-        Err(_) => dispatch(
+    let status = match words_given(&rt) {
+        Ok(words) => dispatch(
             &rt,
             rt.alloc(),
-            &Vec::new(rt.alloc()),
+            &words,
             is_terminal,
             &mut reader,
             &mut writer,
         ),
+        Err(fault) => deliver(&mut writer, Err(fault)),
     };
     ExitCode::from(status)
 }

@@ -6,8 +6,10 @@ mod delivering;
 mod fault;
 mod input;
 mod output;
+mod words;
 
 pub use delivering::{deliver, or_no_memory, write_and_end};
 pub use fault::ProgramFault;
 pub use input::{read_front, read_input};
 pub use output::write_text;
+pub use words::words_given;
