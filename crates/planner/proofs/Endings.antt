@@ -32,7 +32,8 @@ use Rattle.gw_command_line.specs.declared.rows.Summing.{Summing}
 use Rattle.gw_summary.specs.Telling.{IsSummary}
 use Rattle.gw_summary.specs.declared.rows.Rows.{Rows as RowsOfStudy}
 use Rattle.gw_summary.specs.declared.telling.SummaryRequest.{SummaryRequest}
-use Rattle.planner.specs.Answers.{IsReported, asked, answering, charted, charting, window_of, is_plain, request_of, words_of, studied_with, compared, studied, studying, rows_asked, share_asked, object_asked, of_front, summed}
+use Rattle.gw_planner.specs.Answers.{IsReported, asked, charted, window_of, is_plain, request_of, words_of, studied_with, compared, studied, rows_asked, share_asked, object_asked}
+use Rattle.planner.specs.Answers.{answering, charting, studying, of_front, summed}
 use Rattle.gw_command_line.specs.declared.words.Question.{Question}
 use Rattle.gw_command_line.specs.declared.words.Question.TheVariants.{Explain, List as Lists, Points, Convert, Trace, Report}
 use Rattle.gw_command_line.specs.declared.words.Span.{Span}

@@ -8,51 +8,22 @@ ghost use Rattle.gw_console.specs.Calls.{LosesFront, LosesAtMost, TellsReads, Te
 ghost use Rattle.gw_command_line.specs.Asking.{MayBeMade};
 ghost use Rattle.gw_command_line.specs.Words.{command_in, study_view};
 ghost use Rattle.gw_explain.specs.Meaning.{meaning};
-ghost use Rattle.planner.specs.Answers.{window_of as window_for, asked, answering, charted, charting, studied, studying, Tells, DoesCommand, usage_line};
+ghost use Rattle.planner.specs.Answers.{answering, charting, studying, Tells, DoesCommand, usage_line};
 
-use crate::converting::conversion;
 use crate::help::{HELP, USAGE, VERSION};
-use crate::reporting::report;
 use crate::rows::{ask_object, ask_runs, ask_shard, ask_summary};
-use crate::studies::answer_study;
 use gw_answers::Answer;
 use gw_answers::status::{ENDED, WRONG_WORDS};
-use gw_chart::{Window, chart, points};
-use gw_command_line::{Chart, Command, Question, Span, Study, command_of};
+use gw_command_line::{Chart, Command, Question, Study, command_of};
 use gw_console::{ProgramFault, deliver, or_no_memory, read_input, write_and_end};
-use gw_explain::{explain, explain_code};
-use gw_listing::list;
-use gw_object::{MOST_BYTES, Memory};
+use gw_explain::explain_code;
+use gw_object::MOST_BYTES;
+use gw_planner::{answer, answer_study, picture};
 use gw_streams::{Input, Output};
-use gw_trace::trace;
 use std::alloc::Global;
 use std::io::{Eprint, Read, Write};
 use std::sync::Wait;
 use std::thread::Threads;
-
-/// The window of a run that is shown.
-fn window_of(span: Span) -> Window
-    ensures { result ≡ window_for span }
-{
-    Window {
-        from: span.from,
-        to: span.to,
-    }
-}
-
-/// What a question about an input comes to.
-fn answer(alloc: Global, question: Question, input: &[u8]) -> Result<Answer, Memory>
-    ensures { IfOk result (λ a. asked question input.now a.text.items a.status) }
-{
-    match question {
-        Question::Explain => explain(alloc, input),
-        Question::List => list(alloc, input),
-        Question::Points(span) => points(alloc, input, window_of(span)),
-        Question::Convert => conversion(alloc, input),
-        Question::Trace { from, to } => trace(alloc, input, from, to),
-        Question::Report { seed, count } => report(alloc, input, seed, count),
-    }
-}
 
 /// Reads all that is to be read, and then answers it.
 fn read_and_answer<R: Read>(
@@ -86,14 +57,6 @@ pub fn ask<R: Read, W: Write>(
     ensures calls { TellsCalls result reader.old reader.new writer.old writer.new }
 {
     deliver(writer, read_and_answer(alloc, question, reader))
-}
-
-/// What a question for a picture comes to.
-fn picture(alloc: Global, asked: &Chart<'_>, input: &[u8]) -> Result<Answer, Memory>
-    ensures { IfOk result (λ a.
-        charted asked.now.span asked.now.name.now input.now a.text.items a.status) }
-{
-    chart(alloc, input, window_of(asked.span), asked.name.as_bytes())
 }
 
 /// Reads all that is to be read, and then draws a picture.

@@ -8,15 +8,15 @@ ghost use Rattle.gw_console.specs.Output.{AnswersReader, Delivers};
 ghost use Rattle.gw_console.specs.Calls.{LosesFront, LosesAtMost, TellsReads, TellsCalls};
 ghost use Rattle.gw_summary.specs.Keeping.{IsRead};
 ghost use Rattle.planner.specs.Reading.{ReadsAll, ReadsPiece, TellsRows};
-ghost use Rattle.planner.specs.Answers.{rows_asked, rows_request_of, share_asked, object_asked, of_front, summed};
+ghost use Rattle.gw_planner.specs.Answers.{rows_asked, share_asked, object_asked};
+ghost use Rattle.planner.specs.Answers.{of_front, summed};
 
-use crate::studies::words_of;
 use gw_answers::Answer;
 use gw_answers::status::REFUSED;
 use gw_command_line::{LoneRun, Runs, Shard, Summing};
 use gw_console::{ProgramFault, deliver, or_no_memory, read_input};
 use gw_object::{MOST_BYTES, Memory};
-use gw_shards::{RowsRequest, object_of_run, rows_between, rows_of_share};
+use gw_planner::{object_of, rows_of, share_of};
 use gw_streams::{Input, Output};
 use gw_summary::{NoRow, Pieces, RowFault, SummaryRequest, refusal_of, summary};
 use std::alloc::Global;
@@ -33,34 +33,6 @@ enum NoRows {
     Row(NoRow),
     /// A read failed.
     Read,
-}
-
-/// What is asked for, as the library of rows has it.
-fn request_of(runs: &Runs<'_>) -> RowsRequest
-    ensures { result ≡ rows_request_of (runs_view runs.now) }
-{
-    RowsRequest {
-        first: runs.first,
-        end: runs.end,
-        count: runs.count,
-        from: runs.options.from.unwrap_or(0),
-        workers: runs.options.workers.unwrap_or(0),
-    }
-}
-
-/// The rows of runs of a model.
-fn rows_of<T: Threads + Sync + Eprint>(
-    rt: &T,
-    alloc: Global,
-    runs: &Runs<'_>,
-    text: &[u8],
-) -> Result<Answer, Memory>
-    requires { AreRunsFit runs.now }
-    ensures { IfOk result (λ a. rows_asked (runs_view runs.now) text.now a.text.items a.status) }
-{
-    let words = words_of(alloc, &runs.options)?;
-    let request = request_of(runs);
-    rows_between(rt, alloc, text, &words, &request)
 }
 
 /// Reads a model, and makes the runs that are asked for.
@@ -101,19 +73,6 @@ pub fn ask_runs<R: Read, W: Write, T: Threads + Sync + Eprint>(
     deliver(writer, read_and_run(rt, alloc, runs, reader))
 }
 
-/// The rows of a share of a model's experiment.
-fn share_of<T: Threads + Sync + Eprint>(
-    rt: &T,
-    alloc: Global,
-    shard: Shard,
-    text: &[u8],
-) -> Result<Answer, Memory>
-    requires { IsShardFit shard }
-    ensures { IfOk result (λ a. share_asked shard text.now a.text.items a.status) }
-{
-    rows_of_share(rt, alloc, text, shard.number, shard.shares, shard.workers)
-}
-
 /// Reads a model, and makes the runs of a share.
 fn read_and_share<R: Read, T: Threads + Sync + Eprint>(
     rt: &T,
@@ -149,15 +108,6 @@ pub fn ask_shard<R: Read, W: Write, T: Threads + Sync + Eprint>(
     ensures calls { TellsCalls result reader.old reader.new writer.old writer.new }
 {
     deliver(writer, read_and_share(rt, alloc, shard, reader))
-}
-
-/// The object of a run of a model.
-fn object_of(alloc: Global, run: &LoneRun<'_>, text: &[u8]) -> Result<Answer, Memory>
-    requires { IsRunFit run.now }
-    ensures { IfOk result (λ a. object_asked (lone_view run.now) text.now a.text.items a.status) }
-{
-    let words = words_of(alloc, &run.options)?;
-    object_of_run(alloc, text, &words, run.run, run.count)
 }
 
 /// Reads a model, and makes the object of a run of it.

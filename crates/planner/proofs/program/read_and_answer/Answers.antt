@@ -1,6 +1,6 @@
 use Rattle.gw_console.proofs.Bytes.{front_lost}
 use Rattle.planner.proofs.Fronts.{front_answered}
-use Rattle.planner.specs.Answers.{asked}
+use Rattle.gw_planner.specs.Answers.{asked}
 use Rattle.planner.proofs.program.read_and_answer.Goals as goal
 
 pub returns-clause-answer : goal.returns-clause-answer

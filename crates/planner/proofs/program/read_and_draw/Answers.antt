@@ -1,5 +1,5 @@
 use Rattle.planner.proofs.Fronts.{front_answered}
-use Rattle.planner.specs.Answers.{charted}
+use Rattle.gw_planner.specs.Answers.{charted}
 use Rattle.planner.proofs.program.read_and_draw.Goals as goal
 
 pub returns-clause-answer : goal.returns-clause-answer

@@ -1,7 +1,7 @@
 use Rattle.gw_console.proofs.Bytes.{front_lost}
 use Rattle.gw_command_line.specs.Words.{study_view}
 use Rattle.planner.proofs.Fronts.{front_answered}
-use Rattle.planner.specs.Answers.{studied}
+use Rattle.gw_planner.specs.Answers.{studied}
 use Rattle.planner.proofs.program.read_and_study.Goals as goal
 
 pub returns-clause-answer : goal.returns-clause-answer

@@ -1,7 +1,7 @@
 use Rattle.gw_console.proofs.Bytes.{front_lost}
 use Rattle.gw_command_line.specs.Rows.{runs_view}
 use Rattle.planner.proofs.Fronts.{front_answered}
-use Rattle.planner.specs.Answers.{rows_asked}
+use Rattle.gw_planner.specs.Answers.{rows_asked}
 use Rattle.planner.proofs.rows.read_and_run.Goals as goal
 
 pub returns-clause-answer : goal.returns-clause-answer

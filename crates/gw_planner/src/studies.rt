@@ -4,7 +4,7 @@ ghost use Rattle.std.specs.Prelude.{◌≡◌, ◌++◌, map, option_map, option
 ghost use Rattle.gw_command_line.specs.Asking.{MayBeMade};
 ghost use Rattle.gw_command_line.specs.Words.{study_view};
 ghost use Rattle.gw_command_line.specs.Options.{view};
-ghost use Rattle.planner.specs.Answers.{request_of as request_for, is_plain as plain, words_of as words_for, studied, studied_alone, studied_with, compared, IsFormOf, IsPair};
+ghost use Rattle.gw_planner.specs.Answers.{request_of as request_for, is_plain as plain, words_of as words_for, studied, studied_alone, studied_with, compared, IsFormOf, IsPair};
 
 use byteorder::{BigEndian, ByteOrder};
 use gw_alternatives::{Form, compare, study_points};
@@ -58,7 +58,7 @@ fn put_word<'a>(words: &mut Vec<&'a [u8]>, word: Option<&'a str>) -> Result<(), 
 }
 
 /// The words as `NURSES=2,3`.
-pub(crate) fn words_of<'a>(alloc: Global, options: &Options<'a>) -> Result<Vec<&'a [u8]>, Memory>
+pub fn words_of<'a>(alloc: Global, options: &Options<'a>) -> Result<Vec<&'a [u8]>, Memory>
     ensures { IfOk result (λ words.
         map (λ w. w.now) words.items ≡ words_for (view options.now)) }
 {

@@ -1,7 +1,7 @@
 use Rattle.std.proofs.Common.{◌∙◌, sym}
 use Rattle.gw_command_line.specs.Words.{study_view}
-use Rattle.planner.proofs.Alone.{of_study}
-use Rattle.planner.proofs.studies.answer_alone.Goals as goal
+use Rattle.gw_planner.proofs.Alone.{of_study}
+use Rattle.gw_planner.proofs.studies.answer_alone.Goals as goal
 
 pub returns-then-is_plain : goal.returns-then-is_plain
 returns-then-is_plain g c =

@@ -1,8 +1,8 @@
 -- A question for a conversion is answered by one.
 use Rattle.std.proofs.Common.{IfOk, subst, sym}
 use Rattle.gw_command_line.specs.declared.words.Question.{Question}
-use Rattle.planner.specs.Answers.{asked}
-use Rattle.planner.proofs.program.answer.Goals as goal
+use Rattle.gw_planner.specs.Answers.{asked}
+use Rattle.gw_planner.proofs.answering.answer.Goals as goal
 
 pub returns-in-Convert : goal.returns-in-Convert
 returns-in-Convert c =

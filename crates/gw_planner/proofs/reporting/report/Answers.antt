@@ -1,5 +1,5 @@
-use Rattle.planner.proofs.Reports.{reported}
-use Rattle.planner.proofs.reporting.report.Goals as goal
+use Rattle.gw_planner.proofs.Reports.{reported}
+use Rattle.gw_planner.proofs.reporting.report.Goals as goal
 
 pub returns : goal.returns
 returns c =

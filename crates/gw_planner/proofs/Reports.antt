@@ -4,7 +4,7 @@ use Rattle.gw_answers.specs.declared.answer.Answer.{Answer}
 use Rattle.gw_answers.specs.Answer.{IsAnswer}
 use Rattle.gw_answers.specs.Assembly.{IsAssembly}
 use Rattle.gw_answers.specs.Status.{ended}
-use Rattle.planner.specs.Answers.{IsReported}
+use Rattle.gw_planner.specs.Answers.{IsReported}
 
 -- what answers a run of the object that was assembled is reported of the text
 pub reported : {E : Type 0} (seed count : ℕ) (bytes object : List ℕ) (status : ℕ) (r : Result Answer E) → IsAssembly bytes object status → status ≡ ended

@@ -7,7 +7,7 @@ use Rattle.gw_study.specs.declared.request.StudyRequest.{StudyRequest}
 use Rattle.gw_alternatives.specs.declared.form.Form.{Form}
 use Rattle.gw_alternatives.specs.Told.{IsStudyOfPoints, IsComparison}
 use Rattle.gw_command_line.specs.Words.{Demand}
-use Rattle.planner.specs.Answers.{is_plain, request_of, words_of, IsFormOf, IsPair, studied_with, studied_alone, compared}
+use Rattle.gw_planner.specs.Answers.{is_plain, request_of, words_of, IsFormOf, IsPair, studied_with, studied_alone, compared}
 
 -- of a model as it is, as a table, a study tells
 pub of_study : {E : Type 0} (d : Demand) (bytes : List ℕ) (request : StudyRequest) (r : Result Answer E) → request ≡ request_of d → is_plain d.options ≡ true

@@ -1,7 +1,7 @@
 //! A model text of GPSS World in the language of this project.
 
 ghost use Rattle.std.specs.Prelude.{IfOk};
-ghost use Rattle.planner.specs.Answers.{IsConversion};
+ghost use Rattle.gw_planner.specs.Answers.{IsConversion};
 
 use gw_answers::status::ENDED;
 use gw_answers::{Answer, Refusal};

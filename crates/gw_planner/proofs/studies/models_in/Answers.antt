@@ -1,6 +1,6 @@
 use Rattle.std.proofs.Common.{◌∙◌, ◌++◌, [], ap, sym}
 use Rattle.std.proofs.lemmas.List.{append_assoc, append-nil}
-use Rattle.planner.proofs.studies.models_in.Goals as goal
+use Rattle.gw_planner.proofs.studies.models_in.Goals as goal
 
 pub returns-then-input-lt-LENGTH_BYTES : goal.returns-then-input-lt-LENGTH_BYTES
 returns-then-input-lt-LENGTH_BYTES c =

@@ -1,7 +1,7 @@
 use Rattle.std.proofs.Common.{◌∙◌, List, map, ap}
 use Rattle.gw_command_line.specs.Words.{study_view}
-use Rattle.planner.proofs.Alone.{of_points}
-use Rattle.planner.proofs.studies.answer_with.Goals as goal
+use Rattle.gw_planner.proofs.Alone.{of_points}
+use Rattle.gw_planner.proofs.studies.answer_with.Goals as goal
 
 pub returns : goal.returns
 returns g c =

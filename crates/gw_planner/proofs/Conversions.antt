@@ -2,7 +2,7 @@
 use Rattle.std.proofs.Common.{◌≡◌, ℕ, List, ◌++◌}
 use Rattle.gw_answers.specs.Status.{ended}
 use Rattle.gw_convert.specs.Pieces.{IsConverted}
-use Rattle.planner.specs.Answers.{IsConversion}
+use Rattle.gw_planner.specs.Answers.{IsConversion}
 
 pub with_lines : (bytes new told text : List ℕ) (status : ℕ) → IsConverted bytes new → text ≡ new ++ told → status ≡ ended → IsConversion bytes text status
 with_lines bytes new told text status c w e = record {

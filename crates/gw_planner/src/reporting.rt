@@ -1,7 +1,7 @@
 //! The report of a model, from its text in one call.
 
 ghost use Rattle.std.specs.Prelude.{IfOk};
-ghost use Rattle.planner.specs.Answers.{IsReported};
+ghost use Rattle.gw_planner.specs.Answers.{IsReported};
 
 use gw_answers::status::ENDED;
 use gw_answers::{Answer, Request, answer_to};

@@ -1,6 +1,6 @@
 use Rattle.gw_command_line.specs.Words.{study_view}
-use Rattle.planner.proofs.Alone.{of_models}
-use Rattle.planner.proofs.studies.answer_pair.Goals as goal
+use Rattle.gw_planner.proofs.Alone.{of_models}
+use Rattle.gw_planner.proofs.studies.answer_pair.Goals as goal
 
 pub returns : goal.returns
 returns g c =

@@ -1,0 +1,130 @@
+-- What is asked of a model text or an object held in memory, and what answers it: a text and a status.
+use Rattle.std.specs.Prelude.{◌≡◌, ◌≢◌, ◌⊎◌, ℕ, List, ◌++◌, None, Some, option_to_list, is_none, Bool, true, false, not, ◌&&◌, MatchBool}
+use Rattle.std.specs.Option.{unwrap_or}
+use Rattle.gw_answers.specs.Status.{ended}
+use Rattle.gw_answers.specs.Answer.{IsAnswer}
+use Rattle.gw_answers.specs.Assembly.{IsAssembly}
+use Rattle.gw_answers.specs.Requests.{Answering}
+use Rattle.gw_explain.specs.Explanation.{IsExplained}
+use Rattle.gw_listing.specs.Listing.{IsListed}
+use Rattle.gw_model_jobs.specs.ModelJobs.{AnswersModel}
+use Rattle.gw_trace.specs.Trace.{IsTrace}
+use Rattle.gw_chart.specs.Charts.{IsChart, IsSheet}
+use Rattle.gw_chart.specs.declared.window.Window.{Window}
+use Rattle.gw_convert.specs.Pieces.{IsConverted}
+use Rattle.gw_study.specs.Study.{IsStudy}
+use Rattle.gw_study.specs.declared.request.StudyRequest.{StudyRequest}
+use Rattle.gw_alternatives.specs.Told.{IsStudyOfPoints, IsComparison}
+use Rattle.gw_alternatives.specs.declared.form.Form.{Form}
+use Rattle.gw_alternatives.specs.declared.form.Form.TheVariants.{Table, Csv, Picture}
+use Rattle.gw_command_line.specs.Options.{Choices}
+use Rattle.gw_command_line.specs.Words.{Demand, RunsDemand, LoneDemand}
+use Rattle.gw_command_line.specs.declared.rows.Shard.{Shard}
+use Rattle.gw_shards.specs.Objects.{IsObjectAnswer}
+use Rattle.gw_shards.specs.Rows.{AreRows}
+use Rattle.gw_shards.specs.Shares.{IsShareAnswer}
+use Rattle.gw_shards.specs.declared.request.RowsRequest.{RowsRequest}
+use Rattle.gw_command_line.specs.declared.words.Question.{Question}
+use Rattle.gw_command_line.specs.declared.words.Question.TheVariants.{Explain, List as Lists, Points, Convert, Trace, Report}
+use Rattle.gw_command_line.specs.declared.words.Span.{Span}
+
+-- what is reported of a text: the report of its object, or a refusal of that; or the refusal of the text
+abbrev pub IsReported : ℕ → ℕ → Answering
+IsReported seed count bytes text status =
+    ((object : List ℕ) × IsAssembly bytes object ended × IsAnswer seed count object text status)
+    ⊎ ((status ≢ ended) × IsAssembly bytes text status)
+
+-- a text of GPSS World in this language, and what of it is still refused behind that
+pub record IsConversion (bytes text : List ℕ) (status : ℕ) : Type 0 where
+  pub ends : status ≡ ended
+  pub new : List ℕ
+  pub converted : IsConverted bytes new
+  pub told : List ℕ
+  pub whole : text ≡ new ++ told
+
+-- the window of a run that is shown
+abbrev pub window_of : Span → Window
+window_of span = record { from = span.from; to = span.to }
+
+-- what answers a question about an input
+abbrev pub asked : Question → Answering
+asked Explain = IsExplained
+asked Lists = IsListed
+asked (Points span) = AnswersModel (IsSheet (window_of span))
+asked Convert = IsConversion
+asked (Trace from to) = AnswersModel (IsTrace from to)
+asked (Report seed count) = IsReported seed count
+
+-- two models in one input: behind its front, which says how long the first is, the first and then the second
+abbrev pub IsPair : List ℕ → List ℕ → List ℕ → Type 0
+IsPair bytes first second = (front : List ℕ) × (bytes ≡ front ++ first ++ second)
+
+-- what answers a question for a picture under a name
+abbrev pub charted : Span → List ℕ → Answering
+charted span name = AnswersModel (IsChart (window_of span) name)
+
+-- a request for runs, by what the command line asks for
+abbrev pub request_of : Demand → StudyRequest
+request_of d = record {
+  runs = d.runs;
+  count = d.count;
+  from = unwrap_or d.options.from 0;
+  seeds = unwrap_or d.options.seeds 1;
+  workers = unwrap_or d.options.workers 0;
+  all = d.options.all;
+}
+
+-- a study of the model as it is, as a table
+abbrev pub is_plain : Choices → Bool
+is_plain o = is_none o.first && is_none o.figure && not o.csv
+
+-- the words as `NURSES=2,3`
+abbrev pub words_of : Choices → List (List ℕ)
+words_of o = option_to_list o.first ++ option_to_list o.second ++ option_to_list o.third
+
+-- the form that is asked for
+abbrev pub IsFormOf : Choices → Form → Type 0
+IsFormOf o Table = (o.figure ≡ None) × (o.csv ≡ false)
+IsFormOf o Csv = (o.figure ≡ None) × (o.csv ≡ true)
+IsFormOf o (Picture figure) = o.figure ≡ Some figure.now
+
+-- what many runs of a model say with other numbers, or in another form
+abbrev pub studied_with : Demand → Answering
+studied_with d bytes text status =
+    (form : Form) × IsFormOf d.options form × IsStudyOfPoints bytes (words_of d.options) form (request_of d) text status
+
+-- what many runs of a model say: of the model as it is a study's table
+abbrev pub studied_alone : Demand → Answering
+studied_alone d bytes text status =
+    MatchBool (is_plain d.options) (IsStudy bytes (request_of d) text status) (studied_with d bytes text status)
+
+-- what many runs of two models say: the first of them stands behind its length, and the second behind that
+abbrev pub compared : Demand → Answering
+compared d bytes text status =
+    (first : List ℕ) × (second : List ℕ) × (form : Form) × IsFormOf d.options form
+    × IsPair bytes first second × IsComparison first second form (request_of d) text status
+
+-- what many runs say, of one model or of two
+abbrev pub studied : Bool → Demand → Answering
+studied true d bytes text status = compared d bytes text status
+studied false d bytes text status = studied_alone d bytes text status
+
+-- a request for rows, by what the command line asks for
+abbrev pub rows_request_of : RunsDemand → RowsRequest
+rows_request_of d = record {
+  first = d.first;
+  end = d.end;
+  count = d.count;
+  from = unwrap_or d.options.from 0;
+  workers = unwrap_or d.options.workers 0;
+}
+
+-- the rows of runs of a model, of a share of its experiment, and the object of a run
+abbrev pub rows_asked : RunsDemand → Answering
+rows_asked d bytes text status = AreRows bytes (words_of d.options) (rows_request_of d) text status
+
+abbrev pub share_asked : Shard → Answering
+share_asked shard bytes text status = IsShareAnswer bytes shard.number shard.shares text status
+
+abbrev pub object_asked : LoneDemand → Answering
+object_asked d bytes text status = IsObjectAnswer bytes (words_of d.options) d.run d.count text status
