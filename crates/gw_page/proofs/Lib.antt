@@ -1,0 +1,4 @@
+pub mod Conversations
+pub mod Fields
+pub mod Reports
+pub mod Shares
