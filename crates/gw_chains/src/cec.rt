@@ -1,8 +1,12 @@
 //! The current events chain.
 
-ghost use Rattle.std.specs.Prelude.{◌≡◌, ◌≤◌, ◌<◌, ◌+◌, [], length, ◌==◌, option_map, int_le, int_lt, OnOk, OnErr};
+ghost use Rattle.std.specs.Prelude.{◌≡◌, ◌≤◌, ◌<◌, ◌+◌, [], length, ◌==◌, neg_ℤ, option_map, option_to_list, int_le, int_lt, OnOk, OnErr};
+ghost use Rattle.slab.specs.Slab.{get};
 ghost use Rattle.gw_members.specs.Chain.{behind, ahead, first, rest};
 ghost use Rattle.gw_members.specs.declared.tx.Member.{Member};
+ghost use Rattle.gw_chains.specs.Buckets.{members_of, total, AreBuckets};
+ghost use Rattle.gw_chains.specs.Queues.{DoesNotGrow};
+ghost use Rattle.gw_chains.specs.Slots.{TakesNoSlot};
 ghost use Rattle.gw_chains.specs.Heads.{IsHeadThatFails};
 
 use crate::bucket::{Bucket, Link};
@@ -75,6 +79,23 @@ fn head_up_to(head: Option<Member>, newcomer: Member) -> Option<Member>
     }
 }
 
+/// Takes the first member in buckets, if there is one, and answers its transaction.
+#[inline(always)]
+fn pop_tx(row: &mut VecDeque<Bucket>, links: &mut Slab<Link<Member>>) -> Option<Tx>
+    requires { AreBuckets (λ (m : Member). neg_ℤ m.priority) (get links.old) row.old.items }
+    ensures first { let members = members_of (get links.old) row.old.items in
+        result ≡ option_map (λ m. m.tx) (first members) }
+    ensures rest { let members = members_of (get links.old) row.old.items in
+        members_of (get links.new) row.new.items ≡ rest members }
+    ensures buckets { AreBuckets (λ (m : Member). neg_ℤ m.priority) (get links.new) row.new.items }
+    ensures total { total row.new.items + length (option_to_list result) ≡ total row.old.items }
+    ensures room { DoesNotGrow row.old row.new }
+    ensures links { TakesNoSlot links.old links.new }
+{
+    let member = pop_member(row, links)?;
+    Some(member.tx)
+}
+
 impl Cec {
     /// A chain with no member.
     pub fn new(alloc: Global) -> Cec
@@ -100,19 +121,31 @@ impl Cec {
     }
 
     /// Puts it behind its peers: behind all of equal or higher priority. There is room.
-    #[inline(never)]
-    #[tactic(auto, using(crate::proofs::Ranking::behind_by_rank))]
+    #[inline(always)]
     pub fn insert_behind(&mut self, tx: Tx, priority: i32)
         requires { 0 < self.old.room }
         ensures items { let newcomer : Member = record { tx = tx; priority = priority } in
             self.new.items ≡ behind (λ m. m.priority) newcomer self.old.items }
         ensures room { self.old.room ≤ self.new.room + 1 }
     {
-        let member = Member { tx, priority };
         if self.is_empty() {
-            self.head = Some(member);
+            self.head = Some(Member { tx, priority });
             return;
         }
+        self.insert_behind_others(tx, priority);
+    }
+
+    /// The same where somebody is on the chain.
+    #[inline(never)]
+    #[tactic(auto, using(crate::proofs::Ranking::behind_by_rank))]
+    fn insert_behind_others(&mut self, tx: Tx, priority: i32)
+        requires room { 0 < self.old.room }
+        requires others { 0 < length self.old.items }
+        ensures items { let newcomer : Member = record { tx = tx; priority = priority } in
+            self.new.items ≡ behind (λ m. m.priority) newcomer self.old.items }
+        ensures room { self.old.room ≤ self.new.room + 1 }
+    {
+        let member = Member { tx, priority };
         if let Some(head) = lower_head(self.head, member) {
             insert_ahead(&mut self.buckets, &mut self.links, head);
             self.head = Some(member);
@@ -156,9 +189,12 @@ impl Cec {
             self.head = None;
             return Some(tx);
         }
-        let member = pop_member(&mut self.buckets, &mut self.links)?;
+        if self.others == 0 {
+            return None;
+        }
+        let tx = pop_tx(&mut self.buckets, &mut self.links)?;
         self.others -= 1;
-        Some(member.tx)
+        Some(tx)
     }
 
     /// How many members there are.

@@ -184,7 +184,7 @@ fn replace_back<T: Placed>(chunk: &mut VecDeque<T>, other: T)
     chunk[last] = other;
 }
 
-/// The same as `join`, where the last is often the like of a newcomer: it looks at that first.
+/// The same as `join`, where often nobody is there, or the last is the like of a newcomer: it looks at those first.
 #[inline(always)]
 pub(crate) fn join_behind<T: Placed>(chunk: &mut VecDeque<T>, newcomer: T) -> Option<T>
     requires order { GoFirst T.goes_first newcomer chunk.old.items }
@@ -196,6 +196,10 @@ pub(crate) fn join_behind<T: Placed>(chunk: &mut VecDeque<T>, newcomer: T) -> Op
     ensures len { GainsOneAtMost chunk.old chunk.new }
     ensures capacity { deque_capacity chunk.old ≤ deque_capacity chunk.new }
 {
+    if chunk.is_empty() {
+        chunk.push_back_reserved(newcomer);
+        return None;
+    }
     if let Some(host) = like_at_end(chunk, newcomer) {
         replace_back(chunk, host.take_in(newcomer));
         return Some(host);

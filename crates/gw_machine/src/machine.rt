@@ -163,9 +163,9 @@ impl Machine {
         ensures rank { priority_of self.new.transactions.txs tx.number ≡ transaction.priority }
         ensures frame { OnlyEntryIsMade self.old self.new }
     {
-        self.stir = true;
-        raise(&mut self.entries, transaction.next as usize);
         self.transactions.step_to(tx, transaction.next, next);
+        raise(&mut self.entries, transaction.next as usize);
+        self.stir = true;
     }
 
     /// The transaction enters its next block, and its mark time is the clock from now on.

@@ -178,8 +178,8 @@ impl Visit<'_> {
             machine.wait_for(f, self.tx, self.transaction.priority)?;
             return Ok(Made::Step);
         }
-        machine.seize_facility(f, self.tx.number);
         machine.enter_as_found(self.tx, self.transaction, self.transaction.next + 1);
+        machine.seize_facility(f, self.tx.number);
         Ok(Made::Step)
     }
 
@@ -220,8 +220,8 @@ impl Visit<'_> {
             machine.wait_for(u.entity, self.tx, self.transaction.priority)?;
             return Ok(Made::Step);
         }
-        machine.take(u);
         machine.enter_as_found(self.tx, self.transaction, self.transaction.next + 1);
+        machine.take(u);
         Ok(Made::Step)
     }
 
@@ -244,8 +244,8 @@ impl Visit<'_> {
         requires nobody { length (at [] machine.old.waits.lists u.entity) ≡ 0 }
         ensures { Acts result self.now (Block.Leave u) machine.old machine.new }
     {
-        machine.give_back(u);
         machine.enter_as_found(self.tx, self.transaction, self.transaction.next + 1);
+        machine.give_back(u);
         Made::Step
     }
 
@@ -271,8 +271,8 @@ impl Visit<'_> {
         requires { Meets self.now machine.old (Block.Queue u) }
         ensures { Acts result self.now (Block.Queue u) machine.old machine.new }
     {
-        machine.join(u);
         machine.enter_as_found(self.tx, self.transaction, self.transaction.next + 1);
+        machine.join(u);
         Made::Step
     }
 
@@ -281,8 +281,8 @@ impl Visit<'_> {
         requires { Meets self.now machine.old (Block.Depart u) }
         ensures { Acts result self.now (Block.Depart u) machine.old machine.new }
     {
-        machine.depart_units(u);
         machine.enter_as_found(self.tx, self.transaction, self.transaction.next + 1);
+        machine.depart_units(u);
         Made::Step
     }
 

@@ -13,10 +13,10 @@ use Rattle.gw_machine.specs.Shown.{shown}
 use Rattle.gw_machine.proofs.Knowing.{known-same, known-found}
 use Rattle.gw_machine.proofs.machine.Machine.enter_as_found.Goals as goal
 
-written : (c : goal.After-step_to) → c.step_to.new.self.txs ≡ put_attributes c.args.tx.number (record c.args.transaction { current = c.args.transaction.next; next = c.args.next }) (shown c.self.inside).transactions.txs
+written : (c : goal.After-self-1) → c.step_to.new.self.txs ≡ put_attributes c.args.tx.number (record c.args.transaction { current = c.args.transaction.next; next = c.args.next }) (shown c.self.inside).transactions.txs
 written c = c.step_to.ensures.txs c.args.transaction (rw (← c.self.view_is) at c.requires.found)
 
-ranked : (c : goal.After-step_to) → priority_of (shown c.self.inside).transactions.txs c.args.tx.number ≡ c.args.transaction.priority
+ranked : (c : goal.After-self-1) → priority_of (shown c.self.inside).transactions.txs c.args.tx.number ≡ c.args.transaction.priority
 ranked c = priority-found (shown c.self.inside).transactions.txs c.args.tx.number c.args.transaction (rw (← c.self.view_is) at c.requires.found)
 
 pub returns-clause-state : goal.returns-clause-state
