@@ -6,7 +6,7 @@ use Rattle.gw_batch.specs.Codes.{words_fault}
 use Rattle.gw_answers.specs.Service.{nowhere, service_full}
 use Rattle.gw_batch.specs.declared.entry.Entry.{Entry as StoredEntry}
 use Rattle.gw_batch.specs.declared.entry.Entry.TheVariants as stored
-use Rattle.gw_batch.specs.Batch.{Entry, Object, Broken, Front, front, entry_of, first_entry, entries, unread, most_objects}
+use Rattle.gw_batch.specs.Batch.{Entry, Object, Broken, Front, front, entry_of, first_entry, sized, surplus, entries, unread, most_objects}
 
 -- the bytes that a reader has left; none where it doesn't tell them
 abbrev pub left_of : Option (List ℕ) → List ℕ
@@ -23,9 +23,17 @@ IsFirst first read left (Some (stored.Broken fault)) = first (read ++ left) ≡ 
 abbrev pub GivesEntry : (List ℕ → Option Front) → Option StoredEntry → Option (List ℕ) → Option (List ℕ) → Type 0
 GivesEntry first entry old new = (read : List ℕ) × Consumes old new read × IsFirst first read (left_of new) entry
 
+-- those of an object of so many bytes
+abbrev pub GivesSized : ℕ → Option (List ℕ) → Option (List ℕ) → StoredEntry → Type 0
+GivesSized size old new entry = GivesEntry (λ bytes. Some (sized size bytes)) (Some entry) old new
+
 -- the entry that an object too many is, if there is one
 abbrev pub surplus_entry : Bool → Option StoredEntry
 surplus_entry is_there = if is_there then Some (stored.Broken (nowhere service_full)) else None
+
+-- a reader gave its byte, if there is one
+abbrev pub GivesSurplus : Option (List ℕ) → Option (List ℕ) → Bool → Type 0
+GivesSurplus old new is_there = GivesEntry surplus (surplus_entry is_there) old new
 
 -- a reader gave the bytes of a batch: its entries are those of the bytes, and those that are left are not read
 pub record GivesBatch (es : List StoredEntry) (old new : Option (List ℕ)) : Type 0 where

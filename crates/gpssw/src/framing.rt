@@ -1,10 +1,10 @@
 //! Reading a batch: objects, each behind its length.
 
-ghost use Rattle.std.specs.Prelude.{◌≡◌, ◌≤◌, ◌<◌, ◌+◌, ◌⊎◌, ◌++◌, ◌∷◌, [], Some, length, IfOk, IfErr, false};
+ghost use Rattle.std.specs.Prelude.{◌≡◌, ◌≤◌, ◌<◌, ◌+◌, ◌⊎◌, ◌++◌, ◌∷◌, [], length, IfOk, IfErr, false};
 ghost use Rattle.gw_answers.specs.Service.{nowhere};
-ghost use Rattle.gw_batch.specs.Batch.{sized, first_entry, surplus};
+ghost use Rattle.gw_batch.specs.Batch.{first_entry};
 ghost use Rattle.gw_console.specs.Calls.{LosesAtMost, TellsReads};
-ghost use Rattle.gpssw.specs.Framing.{surplus_entry, GivesEntry, GivesBatch, most_bytes_of_batch};
+ghost use Rattle.gpssw.specs.Framing.{GivesBatch, GivesEntry, GivesSized, GivesSurplus, most_bytes_of_batch};
 
 use byteorder::{BigEndian, ByteOrder};
 use gw_batch::{Entry, LENGTH_BYTES, MOST_OBJECTS, SERVICE_FULL};
@@ -32,8 +32,7 @@ fn read_object<R: Read>(
     size: usize,
 ) -> Result<Entry, ProgramFault>
     requires { reader.old.failed ≡ false }
-    ensures entry { IfOk result (λ entry.
-        GivesEntry (λ bytes. Some (sized size bytes)) (Some entry) reader.old.left reader.new.left) }
+    ensures entry { IfOk result (GivesSized size reader.old.left reader.new.left) }
     ensures faults { IfErr result (λ fault.
         (fault ≡ ProgramFault.Read) ⊎ (fault ≡ ProgramFault.Memory)) }
     ensures told { TellsReads result reader.old.failed reader.new.failed }
@@ -75,8 +74,7 @@ fn read_entry<R: Read>(alloc: Global, reader: &mut Input<R>) -> Result<Option<En
 /// Reads whether there is an object too many: a byte.
 fn read_surplus<R: Read>(alloc: Global, reader: &mut Input<R>) -> Result<bool, ProgramFault>
     requires { reader.old.failed ≡ false }
-    ensures entry { IfOk result (λ is_there.
-        GivesEntry surplus (surplus_entry is_there) reader.old.left reader.new.left) }
+    ensures entry { IfOk result (GivesSurplus reader.old.left reader.new.left) }
     ensures faults { IfErr result (λ fault.
         (fault ≡ ProgramFault.Read) ⊎ (fault ≡ ProgramFault.Memory)) }
     ensures told { TellsReads result reader.old.failed reader.new.failed }

@@ -1,6 +1,6 @@
 //! The program, over its words, a reader and a writer.
 
-ghost use Rattle.std.specs.Prelude.{◌≡◌, ◌≢◌, ◌↔◌, ◌+◌, [], ◌∷◌, map, false, IsTrue, None, IfOk, OnOk, MatchOption, Contains};
+ghost use Rattle.std.specs.Prelude.{◌≡◌, ◌≢◌, ◌↔◌, ◌+◌, [], ◌∷◌, map, false, IsTrue, None, IfOk, OnOk, Contains};
 ghost use Rattle.std.specs.String.{string_bytes};
 ghost use Rattle.gw_answers.specs.Status.{ended, refused as refused_status, wrong_words, failed, no_memory};
 ghost use Rattle.gw_answers.specs.Requests as requests;
@@ -10,10 +10,10 @@ ghost use Rattle.gw_batch.specs.Batch.{entry_of};
 ghost use Rattle.gw_batch.specs.Codes.{words_fault};
 ghost use Rattle.gw_batch.specs.Parts.{IsPool};
 ghost use Rattle.gpssw.specs.Words.{command_in};
-ghost use Rattle.gw_console.specs.Output.{AnswersReader, Writes, Responds, Delivers};
+ghost use Rattle.gw_console.specs.Output.{IsAnswerTo, Responds, Delivers};
 ghost use Rattle.gw_console.specs.Calls.{LosesFront, LosesAtMost, TellsReads, TellsCalls};
-ghost use Rattle.gpssw.specs.Output.{usage_line, answering, RespondsToBatch};
-ghost use Rattle.gpssw.specs.Calls.{TellsPoolCalls, tells_calls};
+ghost use Rattle.gpssw.specs.Output.{answering, RespondsToBatch, RespondsToWords};
+ghost use Rattle.gpssw.specs.Calls.{TellsCallsOf, TellsPoolCalls, tells_calls};
 
 use crate::framing::read_batch;
 use crate::words::{Command, command_of};
@@ -37,8 +37,7 @@ fn read_and_answer<R: Read>(
     reader: &mut Input<R>,
 ) -> Result<Answer, ProgramFault>
     requires { reader.old.failed ≡ false }
-    ensures answer { IfOk result (λ a.
-        AnswersReader (requests.answering request) reader.old.left a.text.items a.status) }
+    ensures answer { IfOk result (IsAnswerTo (requests.answering request) reader.old.left) }
     ensures told { TellsReads result reader.old.failed reader.new.failed }
     ensures whole { OnOk result (LosesFront (MOST_BYTES + 1) reader.old.left reader.new.left) }
     ensures limited { LosesAtMost (MOST_BYTES + 1) reader.old.left reader.new.left }
@@ -209,14 +208,11 @@ pub fn dispatch<R: Read, W: Write, T: Threads + Wait + Sync + Eprint + Clock>(
 ) -> u8
     requires reader { reader.old.failed ≡ false }
     requires writer { writer.old.failed ≡ false }
-    ensures output { MatchOption (command_in (map string_bytes words.now))
-        (Writes usage_line wrong_words result writer.old.held writer.new.held)
-        (λ command. Responds (answering command) reader.old.left result writer.old.held writer.new.held) }
+    ensures output { RespondsToWords words.now reader.old.left result
+        writer.old.held writer.new.held }
     ensures unread { command_in (map string_bytes words.now) ≡ None → reader.new ≡ reader.old }
     ensures usage { result ≡ wrong_words → command_in (map string_bytes words.now) ≡ None }
-    ensures calls { MatchOption (command_in (map string_bytes words.now))
-        (TellsCalls result reader.old reader.new writer.old writer.new)
-        (λ command. tells_calls command result reader.old reader.new writer.old writer.new) }
+    ensures calls { TellsCallsOf words.now result reader.old reader.new writer.old writer.new }
 {
     match command_of(words) {
         Some(command) => perform(rt, alloc, command, is_terminal, reader, writer),

@@ -1,8 +1,12 @@
 -- What is told of the runs of alternatives.
-use Rattle.std.specs.Prelude.{◌≡◌, ◌⊎◌, ℕ, ◌+◌, List, [], ◌∷◌, ◌++◌, map, codes, Bool, ◌||◌, ℤ, Option, None, if◌then◌else◌}
+use Rattle.std.specs.Prelude.{◌≡◌, ◌⊎◌, ℕ, ◌+◌, List, [], ◌∷◌, ◌++◌, map, codes, Bool, ◌||◌, ℤ, Option, None, Result, IfOk, OnOk, MatchResult, Vec, if◌then◌else◌}
+use Rattle.std.specs.Global.{Global}
 use Rattle.gw_step.specs.declared.ends.End.TheVariants.{Done}
+use Rattle.gw_answers.specs.Requests.{AnswersAs}
 use Rattle.gw_answers.specs.Status.{ended, refused}
+use Rattle.gw_answers.specs.declared.answer.Answer.{Answer}
 use Rattle.gw_figures.specs.Labels.{Label, labels}
+use Rattle.gw_figures.specs.declared.figure.Figure.{Figure}
 use Rattle.gw_figures.specs.Trends.{value_at}
 use Rattle.gw_figures.specs.declared.run.Run.{Run}
 use Rattle.gw_comparison.specs.Differences.{AddsDifferences}
@@ -10,10 +14,11 @@ use Rattle.gw_comparison.specs.Sheets.{AddsEach, AddsSheet}
 use Rattle.gw_comparison.specs.declared.point.Column.{Column}
 use Rattle.gw_comparison.specs.declared.point.Point.{Point}
 use Rattle.gw_study.specs.Table.{is_ended_so, Adds}
-use Rattle.gw_study.specs.Study.{AreResultsOf, IsResultsText}
+use Rattle.gw_study.specs.Study.{AreResultsOf, IsTextOfResults}
 use Rattle.gw_study.specs.declared.request.StudyRequest.{StudyRequest}
 use Rattle.gw_study.specs.declared.telling.Results.{Results}
 use Rattle.gw_alternatives.specs.declared.alternative.Alternative.{Alternative}
+use Rattle.gw_alternatives.specs.declared.alternatives.NoAlternative.{NoAlternative}
 use Rattle.gw_alternatives.specs.declared.form.Form.{Form}
 use Rattle.gw_alternatives.specs.declared.form.Form.TheVariants.{Table, Csv, Picture}
 use Rattle.gw_alternatives.specs.Alternatives.{ArePoints, AreModels}
@@ -45,11 +50,15 @@ series_from all runs place (figure ∷ rest) =
     if all || figure.main then series_at runs place figure ∷ series_from all runs (place + 1) rest
     else series_from all runs (place + 1) rest
 
+-- those of all figures that are told
+abbrev pub all_series : Bool → List Run → List Figure → List Series
+all_series all runs figures = series_from all runs 0 (labels figures)
+
 -- a point has a name, and what results say
 pub record IsPointBy (all : Bool) (called : List ℕ) (results : Results) (point : Point) : Type 0 where
   pub name : point.name.items ≡ called
   pub columns : map series_of point.columns.items
-      ≡ series_from all results.runs.items 0 (labels results.figures.items)
+      ≡ all_series all results.runs.items results.figures.items
 
 -- TABLES
 
@@ -60,7 +69,7 @@ head_line name = codes "POINT " ++ name ++ codes "\n"
 -- the head of an alternative of a name, what is told of its results, and an empty line
 abbrev pub IsTableOf : List ℕ → Results → StudyRequest → ℕ → List ℕ → Type 0
 IsTableOf name results request count text =
-    (told : List ℕ) × IsResultsText (labels results.figures.items) results.runs.items request count told
+    (told : List ℕ) × IsTextOfResults results request count told
     × (text ≡ head_line name ++ told ++ codes "\n")
 
 -- that, where tables are asked for
@@ -68,6 +77,10 @@ abbrev pub AddsTableIn : Form → StudyRequest → Alternative → Results → L
 AddsTableIn Table request a results old new = Adds (IsTableOf a.name.items results request a.spec.count) old new
 AddsTableIn Csv request a results old new = new ≡ old
 AddsTableIn (Picture figure) request a results old new = new ≡ old
+
+-- where all went well, that is put behind a text
+abbrev pub PutsTableIn : {E : Type 0} → Result (Unit {0}) E → Form → StudyRequest → Alternative → Results → Vec ℕ Global → Vec ℕ Global → Type 0
+PutsTableIn result form request a results old new = OnOk result (AddsTableIn form request a results old.items new.items)
 
 -- an alternative is run, as often and with the seeds that are asked for, and told
 pub record TellsAlternative (form : Form) (request : StudyRequest) (a : Alternative) (point : Point) (old new : List ℕ) : Type 0 where
@@ -82,6 +95,16 @@ TellsAlternatives form request [] points old new = (points ≡ []) × (new ≡ o
 TellsAlternatives form request (a ∷ rest) points old new =
     (point : Point) × (others : List Point) × (middle : List ℕ) × (points ≡ point ∷ others)
     × TellsAlternative form request a point old middle × TellsAlternatives form request rest others middle new
+
+-- where all went well, an alternative is told behind a text, and its point comes back
+abbrev pub PutsAlternative : {E : Type 0} → Result Point E → Form → StudyRequest → Alternative → Vec ℕ Global → Vec ℕ Global → Type 0
+PutsAlternative result form request a old new =
+    IfOk result (λ point. TellsAlternative form request a point old.items new.items)
+
+-- the same of alternatives
+abbrev pub PutsAlternatives : {E : Type 0} → Result (Vec Point Global) E → Form → StudyRequest → List Alternative → Vec ℕ Global → Vec ℕ Global → Type 0
+PutsAlternatives result form request alternatives old new =
+    IfOk result (λ points. TellsAlternatives form request alternatives points.items old.items new.items)
 
 -- DIFFERENCES
 
@@ -114,6 +137,12 @@ pub record AreTold (form : Form) (request : StudyRequest) (alternatives : List A
 abbrev pub IsAnswerAbout : Form → StudyRequest → List Alternative → List ℕ → ℕ → Type 0
 IsAnswerAbout form request alternatives text status =
     ((status ≡ ended) × AreTold form request alternatives text) ⊎ (status ≡ refused)
+
+-- what answers about alternatives, or why there are none
+abbrev pub AnswersAbout : {E : Type 0} → Result (Vec Alternative Global) NoAlternative → Form → StudyRequest → Result Answer E → Type 0
+AnswersAbout found form request result =
+    MatchResult found (λ all. AnswersAs result (IsAnswerAbout form request all.items))
+    (λ none. IfOk result (λ a. a.status ≡ refused))
 
 -- the same where these are alternatives of a kind, or there are none
 abbrev pub IsToldOr : (List Alternative → Type 0) → Form → StudyRequest → List ℕ → ℕ → Type 0

@@ -1,8 +1,9 @@
 //! From texts to what is told of their alternatives.
 
-ghost use Rattle.std.specs.Prelude.{◌≡◌, map, IfOk, MatchResult};
+ghost use Rattle.std.specs.Prelude.{◌≡◌, map};
+ghost use Rattle.gw_answers.specs.Requests.{AnswersAs};
 ghost use Rattle.gw_answers.specs.Status.{refused as refused_status};
-ghost use Rattle.gw_alternatives.specs.Told.{IsAnswerAbout, IsComparison, IsStudyOfPoints};
+ghost use Rattle.gw_alternatives.specs.Told.{AnswersAbout, IsAnswerAbout, IsComparison, IsStudyOfPoints};
 ghost use Rattle.gw_study.specs.Requests.{MayBeStudied};
 
 use crate::alternative::Alternative;
@@ -49,8 +50,7 @@ fn answer_in<W: Threads + Wait + Sync + Eprint>(
     request: &StudyRequest,
 ) -> Result<Answer, Memory>
     requires { MayBeStudied request.now }
-    ensures { IfOk result (λ a.
-        IsAnswerAbout form.entry request.now alternatives.now a.text.items a.status) }
+    ensures { AnswersAs result (IsAnswerAbout form.entry request.now alternatives.now) }
 {
     match refusal_of_form(alloc, alternatives, form)? {
         Some(text) => Ok(refusal(text)),
@@ -70,9 +70,7 @@ fn answer<W: Threads + Wait + Sync + Eprint>(
     request: &StudyRequest,
 ) -> Result<Answer, Memory>
     requires { MayBeStudied request.now }
-    ensures { MatchResult alternatives
-        (λ all. IfOk result (λ a. IsAnswerAbout form.entry request.now all.items a.text.items a.status))
-        (λ none. IfOk result (λ a. a.status ≡ refused_status)) }
+    ensures { AnswersAbout alternatives form.entry request.now result }
 {
     match alternatives {
         Ok(alternatives) => answer_in(rt, alloc, &alternatives, form, request),
@@ -93,8 +91,8 @@ pub fn study_points<W: Threads + Wait + Sync + Eprint>(
     request: &StudyRequest,
 ) -> Result<Answer, Memory>
     requires { MayBeStudied request.now }
-    ensures { IfOk result (λ a. IsStudyOfPoints text.now (map (λ w. w.now) words.now) form.entry
-        request.now a.text.items a.status) }
+    ensures { AnswersAs result
+        (IsStudyOfPoints text.now (map (λ w. w.now) words.now) form.entry request.now) }
 {
     answer(
         rt,
@@ -115,8 +113,7 @@ pub fn compare<W: Threads + Wait + Sync + Eprint>(
     request: &StudyRequest,
 ) -> Result<Answer, Memory>
     requires { MayBeStudied request.now }
-    ensures { IfOk result (λ a.
-        IsComparison first.now second.now form.entry request.now a.text.items a.status) }
+    ensures { AnswersAs result (IsComparison first.now second.now form.entry request.now) }
 {
     answer(
         rt,

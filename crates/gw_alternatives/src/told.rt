@@ -1,12 +1,12 @@
 //! What is told of the runs of alternatives.
 
 ghost use Rattle.std.specs.Prelude.{◌≡◌, ◌≤◌, ◌^◌, ◌++◌, codes, length, map, IfOk, OnOk, vec_len};
-ghost use Rattle.gw_figures.specs.Labels.{label_of, labels};
+ghost use Rattle.gw_figures.specs.Labels.{label_of};
 ghost use Rattle.gw_comparison.specs.Sheets.{AddsEach};
 ghost use Rattle.gw_study.specs.Requests.{MayBeStudied};
 ghost use Rattle.gw_study.specs.Table.{Adds};
 ghost use Rattle.gw_alternatives.specs.Told as model;
-ghost use Rattle.gw_alternatives.specs.Told.{AddsAllDifferences, AddsBlock, AddsRest, AreTold, IsPointBy, TellsAlternative, TellsAlternatives, series_of};
+ghost use Rattle.gw_alternatives.specs.Told.{AddsAllDifferences, AddsBlock, AddsRest, AreTold, IsPointBy, PutsAlternative, PutsAlternatives, series_of};
 
 use crate::alternative::Alternative;
 use crate::form::Form;
@@ -69,8 +69,8 @@ fn columns_of(
     all: bool,
 ) -> Result<Vec<Column>, Memory>
     requires { length runs.now ≤ 512 }
-    ensures { IfOk result (λ columns. map series_of columns.items
-        ≡ model.series_from all runs.now 0 (labels figures.now)) }
+    ensures { IfOk result (λ columns.
+        map series_of columns.items ≡ model.all_series all runs.now figures.now) }
 {
     let mut columns = Vec::new(alloc);
     for i in 0..figures.len() {
@@ -140,8 +140,8 @@ fn put_table_in(
     request: &StudyRequest,
 ) -> Result<(), Memory>
     requires { vec_len results.now.runs ≤ 512 }
-    ensures { OnOk result (model.AddsTableIn form.entry request.now alternative.now results.now
-        out.old.items out.new.items) }
+    ensures { model.PutsTableIn result form.entry request.now alternative.now results.now
+        out.old out.new }
 {
     match form {
         Form::Table => put_table(
@@ -166,8 +166,7 @@ fn point_told<W: Threads + Wait + Sync + Eprint>(
     request: &StudyRequest,
 ) -> Result<Point, Memory>
     requires { MayBeStudied request.now }
-    ensures { IfOk result (λ point.
-        TellsAlternative form.entry request.now alternative.now point out.old.items out.new.items) }
+    ensures { PutsAlternative result form.entry request.now alternative.now out.old out.new }
 {
     let results = results(rt, alloc, &alternative.spec, request)?;
     put_table_in(alloc, out, alternative, &results, form, request)?;
@@ -184,8 +183,7 @@ fn points_told<W: Threads + Wait + Sync + Eprint>(
     request: &StudyRequest,
 ) -> Result<Vec<Point>, Memory>
     requires { MayBeStudied request.now }
-    ensures { IfOk result (λ points. TellsAlternatives form.entry request.now alternatives.now
-        points.items out.old.items out.new.items) }
+    ensures { PutsAlternatives result form.entry request.now alternatives.now out.old out.new }
 {
     let mut points = Vec::new(alloc);
     for i in 0..alternatives.len() {

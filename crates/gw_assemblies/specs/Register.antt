@@ -19,6 +19,10 @@ abbrev pub standing : List Entry → List Assembly
 standing [] = []
 standing (e ∷ es) = if e.stands then e.assembly ∷ standing es else standing es
 
+-- how many assemblies stand
+abbrev pub assembly_count : List Entry → ℕ
+assembly_count entries = length (standing entries)
+
 -- whether an entry stands, and is that of a set at a block
 abbrev pub is_entry_of : ℕ → ℕ → Entry → Bool
 is_entry_of block set e = e.stands && is_of block set e.assembly
@@ -45,3 +49,7 @@ pub record AreFiled (es : List Entry) (buckets : List (Option ℕ)) (m : ℕ) : 
       → IsNewest (bucket_at (length buckets) es) b m (at None buckets b)
   pub older : (k : ℕ) → k < m
       → let f = bucket_at (length buckets) es in IsNewest f (f k) k (older_at es k)
+
+-- whatever the buckets are, entries before place m that are in them in an old list are so in a new one
+abbrev pub StayFiled : ℕ → List Entry → List Entry → Type 0
+StayFiled m old new = (buckets : List (Option ℕ)) → AreFiled old buckets m → AreFiled new buckets m

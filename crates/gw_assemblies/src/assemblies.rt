@@ -2,8 +2,8 @@
 
 ghost use Rattle.std.specs.Prelude.{◌≡◌, ◌≤◌, ◌<◌, ◌+◌, ◌-◌, ◌^◌, ◌++◌, [], ◌∷◌, Some, IsSome, OnOk, OnErr};
 ghost use Rattle.std.specs.List.{find};
-ghost use Rattle.gw_assemblies.specs.Assembling.{is_of};
-ghost use Rattle.gw_members.specs.Firsts.{without_first, with_first_changed};
+ghost use Rattle.gw_assemblies.specs.Assembling.{is_of, with_one_come};
+ghost use Rattle.gw_members.specs.Firsts.{without_first};
 
 use crate::register::{Entry, Key, add, count_down, find, make_way, reserve, strike_out};
 use gw_members::{MOST, Memory, Tx};
@@ -113,9 +113,7 @@ impl Assemblies {
     /// One more has come to the assembly of a set at a block, which has begun.
     pub fn come(&mut self, block: u16, set: u64)
         requires { IsSome (find (is_of block set) self.old.items) }
-        ensures items { self.new.items
-            ≡ with_first_changed (is_of block set) (λ a. record a { missing = a.missing - 1 })
-            self.old.items }
+        ensures items { self.new.items ≡ with_one_come block set self.old.items }
         ensures room { self.old.room ≤ self.new.room }
     {
         count_down(&mut self.entries, &self.buckets, Key { block, set });

@@ -1,11 +1,11 @@
 //! The register of assemblies, in which one is found by its block and its set.
 
-ghost use Rattle.std.specs.Prelude.{◌≡◌, ◌≤◌, ◌<◌, ◌+◌, ◌-◌, ◌*◌, ◌^◌, ◌++◌, [], ◌∷◌, OnOk, Some, length, if◌then◌else◌, option_to_list, replicate, None, List, Option, ℕ};
+ghost use Rattle.std.specs.Prelude.{◌≡◌, ◌≤◌, ◌<◌, ◌+◌, ◌*◌, ◌^◌, ◌++◌, [], ◌∷◌, OnOk, Some, length, if◌then◌else◌, option_to_list, replicate, None};
 ghost use Rattle.std.specs.List.{position, find};
 ghost use Rattle.std.specs.Vec.{vec_len, vec_capacity};
-ghost use Rattle.gw_assemblies.specs.Assembling.{is_of};
-ghost use Rattle.gw_members.specs.Firsts.{without_first, with_first_changed};
-ghost use Rattle.gw_assemblies.specs.Register.{bucket_of, standing, is_entry_of, AreFiled};
+ghost use Rattle.gw_assemblies.specs.Assembling.{is_of, with_one_come};
+ghost use Rattle.gw_members.specs.Firsts.{without_first};
+ghost use Rattle.gw_assemblies.specs.Register.{bucket_of, standing, assembly_count, is_entry_of, AreFiled, StayFiled};
 
 use crate::Assembly;
 use gw_members::Memory;
@@ -151,9 +151,7 @@ pub(crate) fn make_way(entries: &mut Vec<Entry>, buckets: &mut [Option<usize>], 
 /// Appends an entry that isn't filed yet, where there is room.
 fn append(entries: &mut Vec<Entry>, assembly: Assembly)
     requires { vec_len entries.old < vec_capacity entries.old }
-    ensures filed { (buckets : List (Option ℕ))
-        → AreFiled entries.old.items buckets (length entries.old.items)
-        → AreFiled entries.new.items buckets (length entries.old.items) }
+    ensures filed { StayFiled (length entries.old.items) entries.old.items entries.new.items }
     ensures standing { standing entries.new.items ≡ standing entries.old.items ++ assembly ∷ [] }
     ensures len { vec_len entries.new ≡ vec_len entries.old + 1 }
     ensures capacity { vec_capacity entries.new ≡ vec_capacity entries.old }
@@ -195,9 +193,7 @@ pub(crate) fn find(entries: &[Entry], buckets: &[Option<usize>], key: Key) -> Op
 pub(crate) fn count_down(entries: &mut [Entry], buckets: &[Option<usize>], key: Key)
     requires filed { AreFiled entries.old buckets.now (length entries.old) }
     requires some { 0 < length entries.old → 0 < length buckets.now }
-    ensures standing { standing entries.new
-        ≡ with_first_changed (is_of key.block key.set)
-        (λ a. record a { missing = a.missing - 1 }) (standing entries.old) }
+    ensures standing { standing entries.new ≡ with_one_come key.block key.set (standing entries.old) }
     ensures count { length (standing entries.new) ≡ length (standing entries.old) }
     ensures filed { AreFiled entries.new buckets.now (length entries.new) }
     ensures len { length entries.new ≡ length entries.old }
@@ -219,8 +215,7 @@ pub(crate) fn strike_out(
     ensures value { result ≡ find (is_of key.block key.set) (standing entries.old) }
     ensures standing { standing entries.new
         ≡ without_first (is_of key.block key.set) (standing entries.old) }
-    ensures count { length (standing entries.new) + length (option_to_list result)
-        ≡ length (standing entries.old) }
+    ensures count { assembly_count entries.new + length (option_to_list result) ≡ assembly_count entries.old }
     ensures filed { AreFiled entries.new buckets.now (length entries.new) }
     ensures len { length entries.new ≡ length entries.old }
 {

@@ -10,3 +10,5 @@ pub mod Told
 pub mod Writing
 -- BETWEEN THE TWO
 pub mod Tickets
+-- WINDOWS
+pub mod Windows

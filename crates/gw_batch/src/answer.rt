@@ -1,10 +1,10 @@
 //! From a batch to what is written of it, and a status.
 
-ghost use Rattle.std.specs.Prelude.{◌≡◌, [], false, IfOk, IfErr, OnOk, map};
+ghost use Rattle.std.specs.Prelude.{◌≡◌, false, IfOk, IfErr, OnOk, map};
 ghost use Rattle.gw_batch.specs.Batch.{entry_of};
 ghost use Rattle.gw_batch.specs.Parts.{status_if};
-ghost use Rattle.gw_batch.specs.Waiting.{waiting_entry};
-ghost use Rattle.gw_batch.specs.Writing.{stage, Advances, Stops, WritesBatch, IsLeft, TellsWrites};
+ghost use Rattle.gw_batch.specs.Windows.{StopsAt, TellsAll, WritesEntries};
+ghost use Rattle.gw_batch.specs.Writing.{IsLeft, TellsWrites};
 
 use crate::entry::Entry;
 use crate::progress::Progress;
@@ -40,11 +40,8 @@ fn tell_waiting<W: Threads + Wait + Sync + Eprint + Clock, O: Write>(
 ) -> Result<(), ProgramFault>
     requires writer { writer.old.failed ≡ false }
     requires start { telling.old.number ≡ 0 }
-    ensures advances { OnOk result (Advances
-        (stage telling.old (map waiting_entry waiting.items) writer.old.held)
-        (stage telling.new [] writer.new.held)) }
-    ensures stops { IfErr result (Stops
-        (stage telling.old (map waiting_entry waiting.items) writer.old.held) writer.new.held) }
+    ensures advances { TellsAll result telling.old telling.new waiting.items writer.old writer.new }
+    ensures stops { StopsAt result telling.old waiting.items writer.old writer.new }
     ensures marks { TellsWrites result writer.old.failed writer.new.failed }
     ensures flushed { OnOk result (writer.new.waits ≡ false) }
 {
@@ -77,8 +74,7 @@ pub fn answer_batch<W: Threads + Wait + Sync + Eprint + Clock, O: Write>(
     writer: &mut Output<O>,
 ) -> Result<u8, ProgramFault>
     requires writer { writer.old.failed ≡ false }
-    ensures whole { IfOk result (λ status. WritesBatch
-        (map entry_of entries.items) status writer.old.held writer.new.held) }
+    ensures whole { IfOk result (WritesEntries entries.items writer.old writer.new) }
     ensures left { IfErr result (IsLeft
         (map entry_of entries.items) writer.old.held writer.new.held) }
     ensures marks { TellsWrites result writer.old.failed writer.new.failed }

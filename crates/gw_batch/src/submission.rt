@@ -1,9 +1,10 @@
 //! Submitting jobs of a batch.
 
-ghost use Rattle.std.specs.Prelude.{◌≡◌, ◌+◌, ◌<◌, ◌^◌, IfOk, OnErr, map, length};
+ghost use Rattle.std.specs.Prelude.{◌≡◌, ◌+◌, ◌<◌, ◌^◌, IfOk, OnErr, length};
 ghost use Rattle.gw_batch.specs.Batch.{Object};
 ghost use Rattle.gw_batch.specs.Waiting.{waiting_entry};
-ghost use Rattle.gw_batch.specs.Tickets.{user_of, IsTicket, IsTicketFor, StartWith};
+ghost use Rattle.gw_batch.specs.Tickets.{user_of, IsTicket, IsTicketFor};
+ghost use Rattle.gw_batch.specs.Windows.{Submits};
 
 use crate::refusals::want_of_memory;
 use crate::room::{has_room, need_of};
@@ -97,8 +98,8 @@ pub(crate) fn submit_some<R: Ledger, S: Ledger, W: Wait>(
     waiting: &mut VecDeque<Waiting>,
 ) -> Result<VecDeque<Ticket>, Memory>
     requires fits { first + length waiting.old.items < 2 ^ 64 }
-    ensures tickets { IfOk result (λ tickets. StartWith
-        first (map waiting_entry waiting.old.items) tickets.items (map waiting_entry waiting.new.items)) }
+    ensures tickets { IfOk result (λ tickets.
+        Submits first waiting.old.items waiting.new.items tickets.items) }
     ensures all { IfOk result (λ tickets.
         length tickets.items + length waiting.new.items ≡ length waiting.old.items) }
     ensures some { IfOk result (λ tickets.

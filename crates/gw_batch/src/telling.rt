@@ -1,15 +1,13 @@
 //! Telling the entries of a batch, part by part.
 
-ghost use Rattle.std.specs.Prelude.{◌≡◌, ◌+◌, ◌≤◌, ◌<◌, ◌^◌, ◌++◌, ◌||◌, false, List, length, vec_len, vec_capacity, IfOk, OnOk, IfErr, MatchResult};
-ghost use Rattle.std.specs.Io.KnownBytes.{Appends};
+ghost use Rattle.std.specs.Prelude.{◌≡◌, ◌+◌, ◌≤◌, ◌<◌, ◌^◌, ◌++◌, ◌||◌, false, length, vec_len, vec_capacity, IfOk, OnOk, IfErr};
 ghost use Rattle.gw_streams.specs.Streams.{MarksFailure};
-ghost use Rattle.gw_console.specs.Output.{AppendsFront};
-ghost use Rattle.gw_batch.specs.Batch.{Entry};
+ghost use Rattle.gw_console.specs.Output.{WritesText};
 ghost use Rattle.gw_batch.specs.Parts.{job_line};
-ghost use Rattle.gw_batch.specs.Tickets.{TellsTicket, StartWith};
+ghost use Rattle.gw_batch.specs.Tickets.{TellsTicket};
 ghost use Rattle.gw_batch.specs.Writing as model;
-ghost use Rattle.gw_batch.specs.Told.{told_text, told_refused};
-ghost use Rattle.gw_batch.specs.Writing.{stage, Advances, Halts};
+ghost use Rattle.gw_batch.specs.Told.{part_of, told_text, told_refused};
+ghost use Rattle.gw_batch.specs.Windows.{HaltsAtTickets, TellsTickets};
 
 use crate::ticket::Ticket;
 use crate::told::{Told, told_refusal};
@@ -81,9 +79,7 @@ fn write_part<O: Write>(
     told: &[u8],
 ) -> Result<(), ProgramFault>
     requires { writer.old.failed ≡ false }
-    ensures bytes { MatchResult result
-        (λ _. Appends writer.old.held writer.new.held (line.now ++ told.now))
-        (λ fault. (fault ≡ ProgramFault.Write) × AppendsFront writer.old.held writer.new.held (line.now ++ told.now)) }
+    ensures bytes { WritesText (line.now ++ told.now) result writer.old.held writer.new.held }
     ensures marks { MarksFailure result writer.old.failed writer.new.failed }
 {
     write_text(writer, line)?;
@@ -147,10 +143,8 @@ impl Telling {
         requires fits { self.old.number + 1 < 2 ^ 64 }
         ensures number { OnOk result (self.new.number ≡ self.old.number + 1) }
         ensures refused { OnOk result (self.new.refused ≡ self.old.refused || told_refused told) }
-        ensures bytes { MatchResult result
-            (λ _. Appends writer.old.held writer.new.held (job_line self.old.number ++ told_text told))
-            (λ fault. (fault ≡ ProgramFault.Write) × AppendsFront
-            writer.old.held writer.new.held (job_line self.old.number ++ told_text told)) }
+        ensures bytes { WritesText (part_of self.old.number told) result
+            writer.old.held writer.new.held }
         ensures marks { MarksFailure result writer.old.failed writer.new.failed }
     {
         put_line(&mut self.line, self.number);
@@ -179,11 +173,9 @@ pub(crate) fn tell_all<R: Ledger, S: Ledger, W: Wait, O: Write>(
 ) -> Result<(), ProgramFault>
     requires writer { writer.old.failed ≡ false }
     requires fits { telling.old.number + length tickets.items < 2 ^ 64 }
-    ensures advances { (es rest : List Entry) → StartWith telling.old.number es tickets.items rest
-        → OnOk result (Advances
-        (stage telling.old es writer.old.held) (stage telling.new rest writer.new.held)) }
-    ensures halts { (es rest : List Entry) → StartWith telling.old.number es tickets.items rest
-        → IfErr result (λ _. Halts (stage telling.old es writer.old.held) writer.new.held) }
+    ensures advances { TellsTickets result telling.old telling.new tickets.items
+        writer.old writer.new }
+    ensures halts { HaltsAtTickets result telling.old tickets.items writer.old writer.new }
     ensures fault { IfErr result (λ fault. fault ≡ ProgramFault.Write) }
     ensures number { OnOk result (telling.new.number ≡ telling.old.number + length tickets.items) }
     ensures marks { MarksFailure result writer.old.failed writer.new.failed }

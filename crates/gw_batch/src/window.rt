@@ -1,13 +1,12 @@
 //! The window of a batch: the entries whose jobs are in a service at once.
 
-ghost use Rattle.std.specs.Prelude.{◌≡◌, ◌+◌, ◌<◌, ◌^◌, false, List, map, length, OnOk, IfErr};
+ghost use Rattle.std.specs.Prelude.{◌≡◌, ◌+◌, ◌<◌, ◌^◌, false, length, OnOk};
 ghost use Rattle.gw_pool.specs.Shares.{AreWhole};
-ghost use Rattle.gw_batch.specs.Batch.{Entry};
 ghost use Rattle.gw_batch.specs.Parts.{IsTold};
-ghost use Rattle.gw_batch.specs.Tickets.{StartWith};
 ghost use Rattle.gw_batch.specs.Waiting.{waiting_entry};
 ghost use Rattle.gw_batch.specs.Told.{told_text, told_refused};
-ghost use Rattle.gw_batch.specs.Writing.{stage, Advances, Stops, TellsWrites};
+ghost use Rattle.gw_batch.specs.Windows.{KeepsCount, StopsAt, StopsAtTickets, Tells, TellsTickets};
+ghost use Rattle.gw_batch.specs.Writing.{TellsWrites};
 
 use crate::progress::{Progress, Watch};
 use crate::shift::Shift;
@@ -51,13 +50,10 @@ fn do_without<O: Write>(
     requires writer { writer.old.failed ≡ false }
     requires fits { telling.old.number + length waiting.old.items < 2 ^ 64 }
     requires some { 0 < length waiting.old.items }
-    ensures advances { OnOk result (Advances
-        (stage telling.old (map waiting_entry waiting.old.items) writer.old.held)
-        (stage telling.new (map waiting_entry waiting.new.items) writer.new.held)) }
-    ensures stops { IfErr result (Stops
-        (stage telling.old (map waiting_entry waiting.old.items) writer.old.held) writer.new.held) }
-    ensures count { OnOk result (telling.new.number + length waiting.new.items
-        ≡ telling.old.number + length waiting.old.items) }
+    ensures advances { Tells result telling.old telling.new waiting.old.items waiting.new.items
+        writer.old writer.new }
+    ensures stops { StopsAt result telling.old waiting.old.items writer.old writer.new }
+    ensures count { KeepsCount result telling.old telling.new waiting.old.items waiting.new.items }
     ensures more { OnOk result (telling.old.number < telling.new.number) }
     ensures marks { TellsWrites result writer.old.failed writer.new.failed }
 {
@@ -90,11 +86,9 @@ fn run_and_tell<
     requires crew { crew.old.board ≡ service.now }
     requires writer { writer.old.failed ≡ false }
     requires fits { telling.old.number + length tickets.items < 2 ^ 64 }
-    ensures advances { (es rest : List Entry) → StartWith telling.old.number es tickets.items rest
-        → OnOk result (Advances
-        (stage telling.old es writer.old.held) (stage telling.new rest writer.new.held)) }
-    ensures stops { (es rest : List Entry) → StartWith telling.old.number es tickets.items rest
-        → IfErr result (Stops (stage telling.old es writer.old.held) writer.new.held) }
+    ensures advances { TellsTickets result telling.old telling.new tickets.items
+        writer.old writer.new }
+    ensures stops { StopsAtTickets result telling.old tickets.items writer.old writer.new }
     ensures number { OnOk result (telling.new.number ≡ telling.old.number + length tickets.items) }
     ensures marks { TellsWrites result writer.old.failed writer.new.failed }
 {
@@ -133,13 +127,10 @@ fn tell_with<
     requires writer { writer.old.failed ≡ false }
     requires fits { telling.old.number + length waiting.old.items < 2 ^ 64 }
     requires some { 0 < length waiting.old.items }
-    ensures advances { OnOk result (Advances
-        (stage telling.old (map waiting_entry waiting.old.items) writer.old.held)
-        (stage telling.new (map waiting_entry waiting.new.items) writer.new.held)) }
-    ensures stops { IfErr result (Stops
-        (stage telling.old (map waiting_entry waiting.old.items) writer.old.held) writer.new.held) }
-    ensures count { OnOk result (telling.new.number + length waiting.new.items
-        ≡ telling.old.number + length waiting.old.items) }
+    ensures advances { Tells result telling.old telling.new waiting.old.items waiting.new.items
+        writer.old writer.new }
+    ensures stops { StopsAt result telling.old waiting.old.items writer.old writer.new }
+    ensures count { KeepsCount result telling.old telling.new waiting.old.items waiting.new.items }
     ensures more { OnOk result (telling.old.number < telling.new.number) }
     ensures marks { TellsWrites result writer.old.failed writer.new.failed }
 {
@@ -175,13 +166,10 @@ fn tell_window_by<
     requires writer { writer.old.failed ≡ false }
     requires fits { telling.old.number + length waiting.old.items < 2 ^ 64 }
     requires some { 0 < length waiting.old.items }
-    ensures advances { OnOk result (Advances
-        (stage telling.old (map waiting_entry waiting.old.items) writer.old.held)
-        (stage telling.new (map waiting_entry waiting.new.items) writer.new.held)) }
-    ensures stops { IfErr result (Stops
-        (stage telling.old (map waiting_entry waiting.old.items) writer.old.held) writer.new.held) }
-    ensures count { OnOk result (telling.new.number + length waiting.new.items
-        ≡ telling.old.number + length waiting.old.items) }
+    ensures advances { Tells result telling.old telling.new waiting.old.items waiting.new.items
+        writer.old writer.new }
+    ensures stops { StopsAt result telling.old waiting.old.items writer.old writer.new }
+    ensures count { KeepsCount result telling.old telling.new waiting.old.items waiting.new.items }
     ensures more { OnOk result (telling.old.number < telling.new.number) }
     ensures marks { TellsWrites result writer.old.failed writer.new.failed }
 {
@@ -213,13 +201,10 @@ pub(crate) fn tell_window<W: Threads + Wait + Sync + Eprint + Clock, O: Write>(
     requires writer { writer.old.failed ≡ false }
     requires fits { telling.old.number + length waiting.old.items < 2 ^ 64 }
     requires some { 0 < length waiting.old.items }
-    ensures advances { OnOk result (Advances
-        (stage telling.old (map waiting_entry waiting.old.items) writer.old.held)
-        (stage telling.new (map waiting_entry waiting.new.items) writer.new.held)) }
-    ensures stops { IfErr result (Stops
-        (stage telling.old (map waiting_entry waiting.old.items) writer.old.held) writer.new.held) }
-    ensures count { OnOk result (telling.new.number + length waiting.new.items
-        ≡ telling.old.number + length waiting.old.items) }
+    ensures advances { Tells result telling.old telling.new waiting.old.items waiting.new.items
+        writer.old writer.new }
+    ensures stops { StopsAt result telling.old waiting.old.items writer.old writer.new }
+    ensures count { KeepsCount result telling.old telling.new waiting.old.items waiting.new.items }
     ensures more { OnOk result (telling.old.number < telling.new.number) }
     ensures marks { TellsWrites result writer.old.failed writer.new.failed }
 {

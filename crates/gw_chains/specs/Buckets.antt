@@ -3,7 +3,11 @@
 use Rattle.std.specs.Prelude.{◌≡◌, ◌<◌, ◌≤◌, ◌<ℤ◌, ℕ, ℤ, zero, suc, ◌+◌, ◌-◌, ◌==◌, ◌^◌, min, nat_le, int_le, int_lt, is_some, Bool, true, false, List, [], ◌∷◌, ◌++◌, length, AllPairs, Option, Some, None, if◌then◌else◌}
 use Rattle.std.specs.List.{AllByRecursion}
 use Rattle.std.specs.List.Sorted.{IsPartitionPoint}
+use Rattle.std.specs.Borrow.{Bor}
+use Rattle.std.specs.declared.collections.VecDeque.{VecDeque}
+use Rattle.slab.specs.Slab.{Slab, get}
 use Rattle.gw_members.specs.Chain.{placed_behind, first, rest}
+use Rattle.gw_chains.specs.Chunks.{all_of, YieldsNext}
 use Rattle.gw_chains.specs.declared.bucket.Bucket.{Bucket}
 use Rattle.gw_chains.specs.declared.bucket.Link.{Link}
 
@@ -96,6 +100,10 @@ module _ {X : Type 0} where
   abbrev pub members_of : Links X → List Bucket → List X
   members_of links bs = members_at links (links_of links bs)
 
+  -- of so many members, from a link on, each linked to the next, the first is yielded, if there is one; then so many are left, from another link on
+  abbrev pub YieldsMember : Links X → Option (Bor X) → ℕ → ℕ → ℕ → ℕ → Type 0
+  YieldsMember links x n key m next = YieldsNext x (members_at links (run links n key)) (members_at links (run links m next))
+
   -- a link before another
   abbrev pub linked_to : ℕ → Option (Link X) → Option (Link X)
   linked_to next None = None
@@ -146,3 +154,20 @@ module _ {X : Type 0} where
     abbrev pub LoseFirst : Option X → Links X → List Bucket → Links X → List Bucket → Type 0
     LoseFirst x old bs new ws =
         (x ≡ first (members_of old bs)) × (members_of new ws ≡ rest (members_of old bs)) × AreBuckets new ws
+
+    -- buckets gain a member behind all of its rank or a lower one
+    abbrev pub GainBehind : X → Slab (Link X) → List Bucket → Slab (Link X) → List Bucket → Type 0
+    GainBehind e old bs new ws = GainMember (upto e) e (get old) bs (get new) ws
+
+    -- buckets gain a member ahead of all of its rank or a higher one
+    abbrev pub GainAhead : X → Slab (Link X) → List Bucket → Slab (Link X) → List Bucket → Type 0
+    GainAhead e old bs new ws = GainMember (lower e) e (get old) bs (get new) ws
+
+    module _ {Z : Type 0} where
+      -- buckets in chunks gain a member behind all of its rank or a lower one
+      abbrev pub GainInChunks : X → Slab (Link X) → VecDeque (VecDeque Bucket Z) Z → Slab (Link X) → VecDeque (VecDeque Bucket Z) Z → Type 0
+      GainInChunks e old bs new ws = GainBehind e old (all_of bs.items) new (all_of ws.items)
+
+      -- buckets in chunks lose their first member, which is this one
+      abbrev pub LoseFirstInChunks : X → Slab (Link X) → VecDeque (VecDeque Bucket Z) Z → Slab (Link X) → VecDeque (VecDeque Bucket Z) Z → Type 0
+      LoseFirstInChunks x old bs new ws = LoseFirst (Some x) (get old) (all_of bs.items) (get new) (all_of ws.items)

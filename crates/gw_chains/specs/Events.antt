@@ -1,5 +1,7 @@
 -- Future events: few of them in a vector, or many in buckets.
-use Rattle.std.specs.Prelude.{ℕ, ◌≤ℤ◌, ◌+◌, ◌-◌, ◌==◌, min, max, List, length, if◌then◌else◌}
+use Rattle.std.specs.Prelude.{◌≡◌, ◌<◌, ◌⊎◌, ℕ, ◌≤ℤ◌, ◌+◌, ◌-◌, ◌==◌, min, max, List, [], ◌∷◌, ◌++◌, length, reverse, Vec, if◌then◌else◌}
+use Rattle.std.specs.Vec.{vec_capacity}
+use Rattle.gw_members.specs.Members.{with_event}
 use Rattle.gw_members.specs.declared.tx.Event.{Event}
 use Rattle.gw_chains.specs.Chunks.{room_beside}
 
@@ -18,6 +20,10 @@ pub record Bucketed : Type 0 where
   pub spare : ℕ
   pub chunks : ℕ
 
+-- there is room for fewer links than so many, or for fewer chunks
+abbrev pub LacksRoomFor : ℕ → ℕ → Bucketed → Type 0
+LacksRoomFor links chunks b = (b.links < links) ⊎ (b.spare < chunks) ⊎ (b.chunks < chunks)
+
 -- how many more fit in buckets, where so few come into them first, all of them into a chunk of their own
 abbrev pub room_behind : ℕ → Bucketed → ℕ
 room_behind few b = room_beside (few + length b.items) (b.links - few) (b.spare - min few 1) (b.chunks - min few 1)
@@ -29,3 +35,12 @@ space_beside many capacity few = if many == 0 then min capacity most_few - few e
 -- how many more fit, in either way
 abbrev pub room_for_events : ℕ → ℕ → Bucketed → ℕ
 room_for_events capacity few b = max (space_beside (length b.items) capacity few) (room_behind few b)
+
+-- how many more fit beside so few in a vector and so many in buckets
+abbrev pub event_room : {Z : Type 0} → Vec Event Z → Bucketed → ℕ
+event_room few many = room_for_events (vec_capacity few) (length few.items) many
+
+-- events of which the first to come stands last: one behind them, a newcomer, comes to its place by time
+abbrev pub MovesUp : Event → List Event → List Event → Type 0
+MovesUp newcomer old new =
+    (others : List Event) → old ≡ others ++ newcomer ∷ [] → reverse new ≡ with_event newcomer (reverse others)

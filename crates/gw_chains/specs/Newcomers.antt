@@ -1,6 +1,9 @@
 -- A list that is kept in an order, in which one that is the like of a newcomer takes it in.
-use Rattle.std.specs.Prelude.{◌≡◌, ℕ, true, false, List, [], ◌∷◌, AllPairs, Option, Some, None, Bool, if◌then◌else◌}
+use Rattle.std.specs.Prelude.{◌≡◌, ◌<◌, ℕ, ◌+◌, ◌++◌, true, false, List, [], ◌∷◌, AllPairs, Option, Some, None, Bool, if◌then◌else◌}
 use Rattle.std.specs.List.Sorted.{IsPartitionedBy, IsPartitionPoint}
+use Rattle.std.specs.VecDeque.{deque_len}
+use Rattle.std.specs.declared.collections.VecDeque.{VecDeque}
+use Rattle.gw_chains.specs.Chunks.{all_of, items_of, begins_in, HoldsInChunk, ChangesChunk}
 
 module _ {A : Type 0} (goes_first : A → A → Bool) where
   -- the like of a newcomer: each goes first of the other
@@ -25,3 +28,30 @@ module _ {A : Type 0} (goes_first : A → A → Bool) where
   -- the place of a newcomer: behind all that go ahead of it, and before all others
   abbrev pub IsPlaceOf : A → List A → ℕ → Type 0
   IsPlaceOf x ys i = IsPartitionPoint (λ y. goes_first y x ≡ true) (λ y. goes_first y x ≡ false) ys i
+
+module _ {A Z : Type 0} (goes_first : A → A → Bool) where
+  -- the chunk at a place doesn't begin with one that goes ahead of a newcomer
+  abbrev pub BeginsBehind : A → List (VecDeque A Z) → ℕ → Type 0
+  BeginsBehind x chunks place = HoldsInChunk (λ ys. begins_in (λ y. goes_first y x) ys ≡ false) chunks place
+
+  -- the chunk at a place begins with one that goes ahead of a newcomer, unless it is the first
+  abbrev pub BeginsBefore : A → VecDeque (VecDeque A Z) Z → ℕ → Type 0
+  BeginsBefore x chunks place =
+      HoldsInChunk (λ ys. 0 < place → begins_in (λ y. goes_first y x) ys ≡ true) chunks.items place
+
+  -- the chunk behind the one at a place doesn't begin with one that goes ahead of a newcomer, if there is one
+  abbrev pub NextBeginsBehind : A → VecDeque (VecDeque A Z) Z → ℕ → Type 0
+  NextBeginsBehind x chunks place =
+      HoldsInChunk (λ ys. place + 1 < deque_len chunks → begins_in (λ y. goes_first y x) ys ≡ false) chunks.items (place + 1)
+
+  -- a newcomer comes to a chunk, whose upper half is in another one then, if there is one
+  abbrev pub ChunkTakesIn : (A → A → A) → A → VecDeque A Z → VecDeque A Z → Option (VecDeque A Z) → Type 0
+  ChunkTakesIn with_guest x old new upper = new.items ++ items_of upper ≡ with_newcomer goes_first with_guest x old.items
+
+  -- a newcomer comes to the chunk at a place
+  abbrev pub TakesInAt : (A → A → A) → A → ℕ → VecDeque (VecDeque A Z) Z → VecDeque (VecDeque A Z) Z → Type 0
+  TakesInAt with_guest x place old new = ChangesChunk place (with_newcomer goes_first with_guest x) old new
+
+  -- a newcomer comes to chunks
+  abbrev pub ChunksTakeIn : (A → A → A) → A → VecDeque (VecDeque A Z) Z → VecDeque (VecDeque A Z) Z → Type 0
+  ChunksTakeIn with_guest x old new = all_of new.items ≡ with_newcomer goes_first with_guest x (all_of old.items)

@@ -1,7 +1,10 @@
 -- Where a member stands among buckets in a row, and what buckets are without it.
-use Rattle.std.specs.Prelude.{◌≡◌, ◌<◌, ◌≤◌, ◌⊎◌, ◌&&◌, ℕ, zero, suc, ◌+◌, ◌-◌, ◌==◌, nat_le, nat_lt, List, [], ◌∷◌, length, IsSome, if◌then◌else◌}
-use Rattle.gw_chains.specs.Buckets.{times, last_or, Links, run, linked_to}
+use Rattle.std.specs.Prelude.{◌≡◌, ◌<◌, ◌≤◌, ◌⊎◌, ◌&&◌, ℕ, zero, suc, ◌+◌, ◌-◌, ◌==◌, nat_le, nat_lt, List, [], ◌∷◌, length, slice_get, remove, Some, IsSome, if◌then◌else◌}
+use Rattle.std.specs.declared.collections.VecDeque.{VecDeque}
+use Rattle.slab.specs.Slab.{Slab, get}
+use Rattle.gw_chains.specs.Buckets.{times, last_or, Links, run, members_of, linked_to}
 use Rattle.gw_chains.specs.declared.bucket.Bucket.{Bucket}
+use Rattle.gw_chains.specs.declared.bucket.Link.{Link}
 use Rattle.gw_chains.specs.declared.spot.Spot.{Spot}
 use Rattle.gw_chains.specs.declared.walk.Walk.{Walk}
 
@@ -22,6 +25,10 @@ abbrev pub place_at : List Bucket → ℕ → ℕ → ℕ
 place_at [] n passed = passed
 place_at (b ∷ bs) zero passed = passed
 place_at (b ∷ bs) (suc n) passed = b.count + place_at bs n passed
+
+-- how many stand before a spot
+abbrev pub count_before : List Bucket → Spot → ℕ
+count_before bs s = place_at bs s.bucket s.passed
 
 -- each bucket has a member
 abbrev pub AreFilled : List Bucket → Type 0
@@ -79,3 +86,12 @@ abbrev pub without_link : Spot → ℕ → List Bucket → ℕ → List Bucket
 without_link s next [] n = []
 without_link s next (b ∷ bs) zero = if nat_le b.count 1 then bs else without_one s next b ∷ bs
 without_link s next (b ∷ bs) (suc n) = b ∷ without_link s next bs n
+
+module _ {X Z : Type 0} where
+  -- this is the member at a place of buckets in a row
+  abbrev pub HasMemberAt : ℕ → X → Slab (Link X) → VecDeque Bucket Z → Type 0
+  HasMemberAt place x links row = slice_get (members_of (get links) row.items) place ≡ Some x
+
+  -- buckets in a row lose the member at a place
+  abbrev pub LoseMemberAt : ℕ → Slab (Link X) → VecDeque Bucket Z → Slab (Link X) → VecDeque Bucket Z → Type 0
+  LoseMemberAt place old bs new ws = members_of (get new) ws.items ≡ remove (members_of (get old) bs.items) place

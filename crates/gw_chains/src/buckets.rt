@@ -1,15 +1,15 @@
 //! Members in buckets: all of one rank stand in one bucket, each linked to the next. The buckets lie in chunks, and the
 //! links in a slab.
 
-ghost use Rattle.std.specs.Prelude.{◌≡◌, ◌≤◌, ◌<◌, ◌+◌, ◌-◌, ◌^◌, ℕ, [], ◌++◌, All, Some, IfSome, IfNone, option_copied, option_to_list, option_map, length, true, false, OnOk, OnErr};
+ghost use Rattle.std.specs.Prelude.{◌≡◌, ◌≤◌, ◌<◌, ◌+◌, ◌-◌, ◌^◌, ℕ, [], All, Some, IfSome, IfNone, option_map, length, true, false, OnOk, OnErr};
 ghost use Rattle.std.specs.VecDeque.{deque_len, deque_capacity};
 ghost use Rattle.std.specs.VecDeque.Iter.{deque_iter_rest};
 ghost use Rattle.slab.specs.Slab.{get, slab_len, ContainsKey, HasRoomFor};
 ghost use Rattle.gw_members.specs.Chain.{first};
-ghost use Rattle.gw_chains.specs.Chunks.{all_of, rest_of, IsChunk, IsSpare};
+ghost use Rattle.gw_chains.specs.Chunks.{all_of, rest_of, IsChunk, IsSpare, left_in, YieldsNext};
 ghost use Rattle.gw_chains.specs.Queues.{space_in};
 ghost use Rattle.gw_chains.specs.Slots.{TakesOneSlot, TakesNoSlot, KeepsSlots};
-ghost use Rattle.gw_chains.specs.Buckets.{run, members_at, total, upto, bucket_of_one, linked_behind, without_first_link, AreBuckets, GainMember, LoseFirst};
+ghost use Rattle.gw_chains.specs.Buckets.{total, bucket_of_one, linked_behind, without_first_link, AreBuckets, GainInChunks, LoseFirstInChunks, YieldsMember};
 
 use crate::bucket::{Bucket, Link, Ranked};
 use crate::chunks::{Position, front, insert, pop_first, set_front};
@@ -57,8 +57,7 @@ pub(crate) fn insert_member<T: Ranked>(
     requires room { deque_len chunks.old < deque_capacity chunks.old }
     requires spare { (0 < length spare.old.items) × All IsSpare spare.old.items }
     requires links { HasRoomFor links.old 1 }
-    ensures gain { GainMember T.rank (upto T.rank member) member
-        (get links.old) (all_of chunks.old.items) (get links.new) (all_of chunks.new.items) }
+    ensures gain { GainInChunks T.rank member links.old chunks.old links.new chunks.new }
     ensures chunks { All IsChunk chunks.new.items }
     ensures spare { All IsSpare spare.new.items }
     ensures room { space_in chunks.old ≤ space_in chunks.new + 1 }
@@ -147,8 +146,7 @@ pub(crate) fn pop_from<T: Ranked>(
     requires buckets { AreBuckets T.rank (get links.old) (all_of chunks.old.items) }
     requires chunks { All IsChunk chunks.old.items }
     requires spare { All IsSpare spare.old.items }
-    ensures first { LoseFirst T.rank (Some result)
-        (get links.old) (all_of chunks.old.items) (get links.new) (all_of chunks.new.items) }
+    ensures first { LoseFirstInChunks T.rank result links.old chunks.old links.new chunks.new }
     ensures total { total (all_of chunks.new.items) + 1 ≡ total (all_of chunks.old.items) }
     ensures chunks { All IsChunk chunks.new.items }
     ensures spare { All IsSpare spare.new.items }
@@ -167,9 +165,7 @@ pub(crate) fn next_member<'a, T: Ranked>(
     left: &mut usize,
     at: &mut usize,
 ) -> Option<&'a T>
-    ensures members { members_at (get links.now) (run (get links.now) left.old at.old)
-        ≡ option_to_list (option_copied result)
-        ++ members_at (get links.now) (run (get links.now) left.new at.new) }
+    ensures members { YieldsMember (get links.now) result left.old at.old left.new at.new }
     ensures end { IfNone result (left.new ≡ 0) }
 {
     if *left == 0 {
@@ -190,7 +186,7 @@ pub(crate) fn next_member<'a, T: Ranked>(
 
 /// The next bucket of a chunk that was begun, if there is one.
 fn next_of<'a>(chunk: &mut Option<vec_deque::Iter<'a, Bucket>>) -> Option<&'a Bucket>
-    ensures items { rest_of chunk.old ≡ option_to_list (option_copied result) ++ rest_of chunk.new }
+    ensures items { YieldsNext result (rest_of chunk.old) (rest_of chunk.new) }
     ensures end { IfNone result (rest_of chunk.old ≡ []) }
 {
     chunk.as_mut()?.next()
@@ -201,13 +197,12 @@ fn begin_next<'a>(
     chunk: &mut Option<vec_deque::Iter<'a, Bucket>>,
     chunks: &mut vec_deque::Iter<'a, VecDeque<Bucket>>,
 ) -> bool
-    ensures begun { result ≡ true
-        → all_of (deque_iter_rest chunks.old) ≡ rest_of chunk.new ++ all_of (deque_iter_rest chunks.new) }
+    ensures begun { result ≡ true → all_of (deque_iter_rest chunks.old) ≡ left_in chunk.new chunks.new }
     ensures fewer { result ≡ true
         → length (deque_iter_rest chunks.old) ≡ length (deque_iter_rest chunks.new) + 1 }
-    ensures end { result ≡ false → (all_of (deque_iter_rest chunks.old) ≡ [])
-        × (rest_of chunk.new ≡ rest_of chunk.old)
-        × (deque_iter_rest chunks.new ≡ []) }
+    ensures end { result ≡ false → all_of (deque_iter_rest chunks.old) ≡ [] }
+    ensures same { result ≡ false → rest_of chunk.new ≡ rest_of chunk.old }
+    ensures none { result ≡ false → deque_iter_rest chunks.new ≡ [] }
 {
     match chunks.next() {
         Some(next) => {
@@ -223,10 +218,8 @@ pub(crate) fn next_bucket<'a>(
     chunk: &mut Option<vec_deque::Iter<'a, Bucket>>,
     chunks: &mut vec_deque::Iter<'a, VecDeque<Bucket>>,
 ) -> Option<&'a Bucket>
-    ensures items { rest_of chunk.old ++ all_of (deque_iter_rest chunks.old)
-        ≡ option_to_list (option_copied result)
-        ++ (rest_of chunk.new ++ all_of (deque_iter_rest chunks.new)) }
-    ensures end { IfNone result (rest_of chunk.old ++ all_of (deque_iter_rest chunks.old) ≡ []) }
+    ensures items { YieldsNext result (left_in chunk.old chunks.old) (left_in chunk.new chunks.new) }
+    ensures end { IfNone result (left_in chunk.old chunks.old ≡ []) }
 {
     loop {
         if let Some(bucket) = next_of(chunk) {

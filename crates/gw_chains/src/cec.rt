@@ -1,9 +1,10 @@
 //! The current events chain.
 
-ghost use Rattle.std.specs.Prelude.{◌≡◌, ◌≤◌, ◌<◌, ◌+◌, [], length, ◌==◌, neg_ℤ, option_map, option_to_list, int_le, int_lt, OnOk, OnErr};
+ghost use Rattle.std.specs.Prelude.{◌≡◌, ◌≤◌, ◌<◌, ◌+◌, [], length, ◌==◌, neg_ℤ, option_to_list, int_le, int_lt, OnOk, OnErr};
 ghost use Rattle.slab.specs.Slab.{get};
-ghost use Rattle.gw_members.specs.Chain.{behind, ahead, first, rest};
+ghost use Rattle.gw_members.specs.Chain.{rest};
 ghost use Rattle.gw_members.specs.declared.tx.Member.{Member};
+ghost use Rattle.gw_members.specs.Members.{behind_peers, ahead_of_peers, first_tx};
 ghost use Rattle.gw_chains.specs.Buckets.{members_of, total, AreBuckets};
 ghost use Rattle.gw_chains.specs.Queues.{DoesNotGrow};
 ghost use Rattle.gw_chains.specs.Slots.{TakesNoSlot};
@@ -83,10 +84,8 @@ fn head_up_to(head: Option<Member>, newcomer: Member) -> Option<Member>
 #[inline(always)]
 fn pop_tx(row: &mut VecDeque<Bucket>, links: &mut Slab<Link<Member>>) -> Option<Tx>
     requires { AreBuckets (λ (m : Member). neg_ℤ m.priority) (get links.old) row.old.items }
-    ensures first { let members = members_of (get links.old) row.old.items in
-        result ≡ option_map (λ m. m.tx) (first members) }
-    ensures rest { let members = members_of (get links.old) row.old.items in
-        members_of (get links.new) row.new.items ≡ rest members }
+    ensures first { result ≡ first_tx (members_of (get links.old) row.old.items) }
+    ensures rest { members_of (get links.new) row.new.items ≡ rest (members_of (get links.old) row.old.items) }
     ensures buckets { AreBuckets (λ (m : Member). neg_ℤ m.priority) (get links.new) row.new.items }
     ensures total { total row.new.items + length (option_to_list result) ≡ total row.old.items }
     ensures room { DoesNotGrow row.old row.new }
@@ -124,8 +123,7 @@ impl Cec {
     #[inline(always)]
     pub fn insert_behind(&mut self, tx: Tx, priority: i32)
         requires { 0 < self.old.room }
-        ensures items { let newcomer : Member = record { tx = tx; priority = priority } in
-            self.new.items ≡ behind (λ m. m.priority) newcomer self.old.items }
+        ensures items { self.new.items ≡ behind_peers tx priority self.old.items }
         ensures room { self.old.room ≤ self.new.room + 1 }
     {
         if self.is_empty() {
@@ -141,8 +139,7 @@ impl Cec {
     fn insert_behind_others(&mut self, tx: Tx, priority: i32)
         requires room { 0 < self.old.room }
         requires others { 0 < length self.old.items }
-        ensures items { let newcomer : Member = record { tx = tx; priority = priority } in
-            self.new.items ≡ behind (λ m. m.priority) newcomer self.old.items }
+        ensures items { self.new.items ≡ behind_peers tx priority self.old.items }
         ensures room { self.old.room ≤ self.new.room + 1 }
     {
         let member = Member { tx, priority };
@@ -160,8 +157,7 @@ impl Cec {
     #[tactic(auto, using(crate::proofs::Ranking::ahead_by_rank))]
     pub fn insert_ahead(&mut self, tx: Tx, priority: i32)
         requires { 0 < self.old.room }
-        ensures items { let newcomer : Member = record { tx = tx; priority = priority } in
-            self.new.items ≡ ahead (λ m. m.priority) newcomer self.old.items }
+        ensures items { self.new.items ≡ ahead_of_peers tx priority self.old.items }
         ensures room { self.old.room ≤ self.new.room + 1 }
     {
         let member = Member { tx, priority };
@@ -181,7 +177,7 @@ impl Cec {
 
     /// Takes the first, if there is one.
     pub fn pop_first(&mut self) -> Option<Tx>
-        ensures first { result ≡ option_map (λ m. m.tx) (first self.old.items) }
+        ensures first { result ≡ first_tx self.old.items }
         ensures rest { self.new.items ≡ rest self.old.items }
         ensures room { self.old.room ≤ self.new.room }
     {

@@ -1,11 +1,10 @@
 //! A list that is kept in an order, in chunks, so that a newcomer among tens of thousands moves few of them.
 
-ghost use Rattle.std.specs.Prelude.{◌≡◌, ◌≤◌, ◌<◌, ◌+◌, ◌-◌, ◌^◌, [], ◌∷◌, ◌++◌, Bool, true, false, All, length, take, drop, set, slice_index_or, option_to_list, option_copied, ◌⊎◌, IfSome, OnSome, OnOk, OnErr};
+ghost use Rattle.std.specs.Prelude.{◌≡◌, ◌≤◌, ◌<◌, ◌+◌, ◌-◌, ◌^◌, [], ◌∷◌, ◌++◌, Bool, true, All, length, drop, set, option_to_list, option_copied, IfSome, OnSome, OnOk, OnErr};
 ghost use Rattle.std.specs.VecDeque.{deque_len, deque_capacity};
-ghost use Rattle.std.specs.declared.collections.VecDeque.{VecDeque as DeclaredQueue};
 ghost use Rattle.gw_members.specs.Chain.{first, rest};
-ghost use Rattle.gw_chains.specs.Newcomers.{host, with_newcomer, IsHostLast, GoFirst, IsPlaceOf};
-ghost use Rattle.gw_chains.specs.Chunks.{most_in_chunk, all_of, items_of, begins_in, HoldsInChunk, StandsAt, IsChunk, IsSpare};
+ghost use Rattle.gw_chains.specs.Newcomers.{host, with_newcomer, IsHostLast, GoFirst, IsPlaceOf, BeginsBehind, BeginsBefore, NextBeginsBehind, ChunkTakesIn, TakesInAt, ChunksTakeIn};
+ghost use Rattle.gw_chains.specs.Chunks.{most_in_chunk, all_of, begins_in, HoldsInChunk, StandsAt, IsChunk, IsSpare, IsLastOf, ChangesChunk, LacksChunks};
 ghost use Rattle.gw_chains.specs.Queues.{space_in, IsAsLarge, GainsOneAtMost};
 
 use crate::guesses::Guesses;
@@ -57,10 +56,8 @@ fn begins_before<T: Placed>(chunk: &VecDeque<T>, newcomer: T) -> bool
 fn place_of<T: Placed>(chunks: &VecDeque<VecDeque<T>>, newcomer: T) -> usize
     requires { 0 < deque_len chunks.now }
     ensures within { result < deque_len chunks.now }
-    ensures behind { HoldsInChunk (λ ys. 0 < result
-        → begins_in (λ y. T.goes_first y newcomer) ys ≡ true) chunks.now.items result }
-    ensures before { HoldsInChunk (λ ys. result + 1 < deque_len chunks.now
-        → begins_in (λ y. T.goes_first y newcomer) ys ≡ false) chunks.now.items (result + 1) }
+    ensures behind { BeginsBefore T.goes_first newcomer chunks.now result }
+    ensures before { NextBeginsBehind T.goes_first newcomer chunks.now result }
 {
     let mut high = chunks.len() - 1;
     if begins_before(&chunks[high], newcomer) {
@@ -162,8 +159,7 @@ pub(crate) fn join<T: Placed>(chunk: &mut VecDeque<T>, newcomer: T, at: &mut usi
 fn like_at_end<T: Placed>(chunk: &VecDeque<T>, newcomer: T) -> Option<T>
     ensures like { IfSome result (λ y. (T.goes_first y newcomer ≡ true)
         × (T.goes_first newcomer y ≡ true)) }
-    ensures last { IfSome result (λ y. (0 < deque_len chunk.now)
-        × (y ≡ slice_index_or chunk.now.items (deque_len chunk.now - 1) y)) }
+    ensures last { IfSome result (λ y. IsLastOf y chunk.now) }
 {
     let last = *chunk.back()?;
     if last.goes_first(newcomer) && newcomer.goes_first(last) {
@@ -228,8 +224,9 @@ fn split<T: Placed>(lower: &mut VecDeque<T>, upper: &mut VecDeque<T>)
     requires full { deque_len lower.old ≡ most_in_chunk }
     requires spare { IsSpare upper.old }
     ensures items { lower.new.items ++ upper.new.items ≡ lower.old.items }
-    ensures lower { (0 < deque_len lower.new) × (deque_len lower.new < most_in_chunk)
-        × (deque_capacity lower.new ≡ deque_capacity lower.old) }
+    ensures lower { 0 < deque_len lower.new }
+    ensures less { deque_len lower.new < most_in_chunk }
+    ensures capacity { deque_capacity lower.new ≡ deque_capacity lower.old }
     ensures upper { IsChunk upper.new }
 {
     while upper.len() < MOST_IN_CHUNK / 2 {
@@ -253,8 +250,7 @@ fn join_and_split<T: Placed>(
     requires chunk { IsChunk chunk.old }
     requires spare { (0 < length spare.old.items) × All IsSpare spare.old.items }
     ensures host { result.0 ≡ host T.goes_first newcomer chunk.old.items }
-    ensures items { chunk.new.items ++ items_of result.1
-        ≡ with_newcomer T.goes_first T.with_guest newcomer chunk.old.items }
+    ensures items { ChunkTakesIn T.goes_first T.with_guest newcomer chunk.old chunk.new result.1 }
     ensures chunk { IsChunk chunk.new }
     ensures upper { IfSome result.1 IsChunk }
     ensures spare { All IsSpare spare.new.items }
@@ -290,11 +286,7 @@ fn insert_at<T: Placed>(
     requires spare { (0 < length spare.old.items) × All IsSpare spare.old.items }
     ensures host { HoldsInChunk (λ ys. result ≡ host T.goes_first newcomer ys)
         chunks.old.items place }
-    ensures items { (d : DeclaredQueue T Global) → all_of chunks.new.items
-        ≡ all_of (take place chunks.old.items)
-        ++ (with_newcomer T.goes_first T.with_guest newcomer
-        (slice_index_or chunks.old.items place d).items
-        ++ all_of (drop (place + 1) chunks.old.items)) }
+    ensures items { TakesInAt T.goes_first T.with_guest newcomer place chunks.old chunks.new }
     ensures chunks { All IsChunk chunks.new.items }
     ensures spare { All IsSpare spare.new.items }
     ensures room { space_in chunks.old ≤ space_in chunks.new + 1 }
@@ -339,10 +331,7 @@ fn replace_at<T: Placed>(chunks: &mut VecDeque<VecDeque<T>>, at: Position, other
     requires within { at.chunk < deque_len chunks.old }
     requires there { HoldsInChunk (λ ys. at.place < length ys) chunks.old.items at.chunk }
     requires chunks { All IsChunk chunks.old.items }
-    ensures items { (d : DeclaredQueue T Global) → all_of chunks.new.items
-        ≡ all_of (take at.chunk chunks.old.items)
-        ++ (set (slice_index_or chunks.old.items at.chunk d).items at.place other
-        ++ all_of (drop (at.chunk + 1) chunks.old.items)) }
+    ensures items { ChangesChunk at.chunk (λ ys. set ys at.place other) chunks.old chunks.new }
     ensures chunks { All IsChunk chunks.new.items }
     ensures room { IsAsLarge chunks.old chunks.new }
 {
@@ -352,8 +341,7 @@ fn replace_at<T: Placed>(chunks: &mut VecDeque<VecDeque<T>>, at: Position, other
 /// Whether a newcomer goes ahead of all, and the first chunk isn't full with it.
 fn goes_ahead<T: Placed>(chunks: &VecDeque<VecDeque<T>>, newcomer: T) -> bool
     requires { 0 < deque_len chunks.now }
-    ensures ahead { result ≡ true → HoldsInChunk (λ ys. begins_in (λ y. T.goes_first y newcomer) ys
-        ≡ false) chunks.now.items 0 }
+    ensures ahead { result ≡ true → BeginsBehind T.goes_first newcomer chunks.now.items 0 }
     ensures room { result ≡ true
         → HoldsInChunk (λ ys. length ys + 1 < most_in_chunk) chunks.now.items 0 }
 {
@@ -387,10 +375,8 @@ fn put_ahead<T: Placed>(chunks: &mut VecDeque<VecDeque<T>>, newcomer: T)
 fn place_near<T: Placed>(chunks: &VecDeque<VecDeque<T>>, near: usize, newcomer: T) -> usize
     requires { 0 < deque_len chunks.now }
     ensures within { result < deque_len chunks.now }
-    ensures behind { HoldsInChunk (λ ys. 0 < result
-        → begins_in (λ y. T.goes_first y newcomer) ys ≡ true) chunks.now.items result }
-    ensures before { HoldsInChunk (λ ys. result + 1 < deque_len chunks.now
-        → begins_in (λ y. T.goes_first y newcomer) ys ≡ false) chunks.now.items (result + 1) }
+    ensures behind { BeginsBefore T.goes_first newcomer chunks.now result }
+    ensures before { NextBeginsBehind T.goes_first newcomer chunks.now result }
 {
     if near < chunks.len()
         && begins_before(&chunks[near], newcomer)
@@ -417,8 +403,7 @@ pub(crate) fn insert<T: Placed>(
     requires room { deque_len chunks.old < deque_capacity chunks.old }
     requires spare { (0 < length spare.old.items) × All IsSpare spare.old.items }
     ensures host { result ≡ host T.goes_first newcomer (all_of chunks.old.items) }
-    ensures items { all_of chunks.new.items
-        ≡ with_newcomer T.goes_first T.with_guest newcomer (all_of chunks.old.items) }
+    ensures items { ChunksTakeIn T.goes_first T.with_guest newcomer chunks.old chunks.new }
     ensures chunks { All IsChunk chunks.new.items }
     ensures spare { All IsSpare spare.new.items }
     ensures room { space_in chunks.old ≤ space_in chunks.new + 1 }
@@ -445,8 +430,7 @@ fn insert_anew<T: Placed>(
     requires room { deque_len chunks.old < deque_capacity chunks.old }
     requires spare { (0 < length spare.old.items) × All IsSpare spare.old.items }
     ensures host { result ≡ host T.goes_first newcomer (all_of chunks.old.items) }
-    ensures items { all_of chunks.new.items
-        ≡ with_newcomer T.goes_first T.with_guest newcomer (all_of chunks.old.items) }
+    ensures items { ChunksTakeIn T.goes_first T.with_guest newcomer chunks.old chunks.new }
     ensures chunks { All IsChunk chunks.new.items }
     ensures spare { All IsSpare spare.new.items }
     ensures room { space_in chunks.old ≤ space_in chunks.new + 1 }
@@ -573,8 +557,7 @@ pub(crate) fn reserve<T: Placed>(
     ensures chunks { OnOk result (more ≤ length spare.new.items) }
     ensures kept { deque_capacity chunks.old ≤ deque_capacity chunks.new }
     ensures spare_kept { length spare.old.items ≤ length spare.new.items }
-    ensures refused { OnErr result ((deque_capacity chunks.old < deque_len chunks.old + more)
-        ⊎ (length spare.old.items < more)) }
+    ensures refused { OnErr result (LacksChunks more chunks.old spare.old.items) }
 {
     chunks.reserve(more)?;
     while spare.len() < more {

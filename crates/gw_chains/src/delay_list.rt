@@ -1,9 +1,9 @@
 //! The delay list of one entity.
 
-ghost use Rattle.std.specs.Prelude.{◌≡◌, ◌≤◌, ◌<◌, ◌+◌, ◌↔◌, [], length, option_map, slice_get, remove, IsSome, OnOk, OnErr};
+ghost use Rattle.std.specs.Prelude.{◌≡◌, ◌≤◌, ◌<◌, ◌+◌, ◌↔◌, [], length, remove, IsSome, OnOk, OnErr};
 ghost use Rattle.std.specs.Iterator.{YieldsFirstRef, item_count};
-ghost use Rattle.gw_members.specs.Chain.{behind};
 ghost use Rattle.gw_members.specs.declared.tx.Member.{Member};
+ghost use Rattle.gw_members.specs.Members.{behind_peers, tx_at};
 
 use crate::bucket::{Bucket, Link};
 use crate::buckets::next_member;
@@ -36,7 +36,7 @@ impl Model for DelayList {
     ghost use Rattle.gw_chains.specs.Waiting.{Walked};
     ghost use Rattle.gw_chains.specs.Slots.{row_room};
     ghost use Rattle.gw_chains.specs.Buckets.{members_of, AreCounted};
-    ghost use Rattle.gw_chains.specs.Spots.{place_at, IsWalkOrBegins};
+    ghost use Rattle.gw_chains.specs.Spots.{count_before, IsWalkOrBegins};
     ghost use Rattle.gw_members.specs.declared.tx.Member.{Member};
 
     ghost Value = { Walked };
@@ -48,7 +48,7 @@ impl Model for DelayList {
     ghost view = { λ l. record {
       members = members_of (get l.links) l.buckets.items;
       room = row_room l.count l.buckets l.links;
-      place = place_at l.buckets.items l.walk.spot.bucket l.walk.spot.passed;
+      place = count_before l.buckets.items l.walk.spot;
     } };
 }
 
@@ -86,7 +86,7 @@ impl DelayList {
 
     /// The transaction at this place, from 0, if there is one.
     pub fn get(&self, place: usize) -> Option<Tx>
-        ensures { result ≡ option_map (λ m. m.tx) (slice_get self.now.members place) }
+        ensures { result ≡ tx_at place self.now.members }
     {
         if self.count <= place {
             return None;
@@ -109,8 +109,7 @@ impl DelayList {
     /// Puts it behind its peers: behind all of equal or higher priority. There is room. The walk is at the first again.
     pub fn insert_behind(&mut self, tx: Tx, priority: i32)
         requires { 0 < self.old.room }
-        ensures members { let newcomer : Member = record { tx = tx; priority = priority } in
-            self.new.members ≡ behind (λ m. m.priority) newcomer self.old.members }
+        ensures members { self.new.members ≡ behind_peers tx priority self.old.members }
         ensures len { length self.new.members ≡ length self.old.members + 1 }
         ensures place { self.new.place ≡ 0 }
         ensures room { self.old.room ≤ self.new.room + 1 }
@@ -145,8 +144,7 @@ impl DelayList {
 
     /// The transaction to which the walk has come, if it is not at the end.
     pub fn current(&self) -> Option<Tx>
-        ensures value { result
-            ≡ option_map (λ m. m.tx) (slice_get self.now.members self.now.place) }
+        ensures value { result ≡ tx_at self.now.place self.now.members }
         ensures there { IsSome result ↔ (self.now.place < length self.now.members) }
     {
         let walk = begin_walk(self.walk, &self.buckets, &self.links);

@@ -1,13 +1,14 @@
 //! Future events in buckets: where they are many.
 
-ghost use Rattle.std.specs.Prelude.{◌≡◌, ◌≤◌, ◌<◌, ◌+◌, ◌^◌, ◌⊎◌, [], nat_le, length, reverse, if◌then◌else◌, option_map, is_some, int_le, AllPairs, OnOk, OnErr};
+ghost use Rattle.std.specs.Prelude.{◌≡◌, ◌≤◌, ◌<◌, ◌+◌, ◌^◌, [], nat_le, length, reverse, option_map, is_some, int_le, AllPairs, OnOk, OnErr};
 ghost use Rattle.std.specs.Iterator.{YieldsFirstRef, item_count};
 ghost use Rattle.std.specs.VecDeque.{deque_len, deque_capacity};
 ghost use Rattle.slab.specs.Slab.{get, slab_len, HasRoomFor};
-ghost use Rattle.gw_members.specs.Chain.{in_time, due, first, rest};
+ghost use Rattle.gw_members.specs.Chain.{first, rest, rest_if};
 ghost use Rattle.gw_members.specs.declared.tx.Event.{Event};
+ghost use Rattle.gw_members.specs.Members.{with_event, first_due};
 ghost use Rattle.gw_chains.specs.Buckets.{members_of, total, AreBuckets};
-ghost use Rattle.gw_chains.specs.Events.{most_few, NotLater, room_behind};
+ghost use Rattle.gw_chains.specs.Events.{most_few, NotLater, room_behind, LacksRoomFor};
 
 use crate::bucket::{Bucket, Link};
 use crate::buckets::{
@@ -82,9 +83,7 @@ impl EventBuckets {
         ensures room { OnOk result ((chunks ≤ self.new.spare) × (chunks ≤ self.new.chunks)) }
         ensures links_kept { self.old.links ≤ self.new.links }
         ensures kept { (self.old.spare ≤ self.new.spare) × (self.old.chunks ≤ self.new.chunks) }
-        ensures refused { OnErr result ((self.old.links < events)
-            ⊎ (self.old.spare < chunks)
-            ⊎ (self.old.chunks < chunks)) }
+        ensures refused { OnErr result (LacksRoomFor events chunks self.old) }
     {
         if events <= self.links.capacity() - self.links.len()
             && chunks <= self.spare.len()
@@ -121,7 +120,7 @@ impl EventBuckets {
     /// Puts it behind all of its time or an earlier one. There is room.
     pub fn schedule(&mut self, event: Event)
         requires { 0 < room_behind 0 self.old }
-        ensures items { self.new.items ≡ in_time (λ e. e.time) event self.old.items }
+        ensures items { self.new.items ≡ with_event event self.old.items }
         ensures links { self.old.links ≤ self.new.links + 1 }
         ensures spare { self.old.spare ≤ self.new.spare + 1 }
         ensures chunks { self.old.chunks ≤ self.new.chunks + 1 }
@@ -160,10 +159,8 @@ impl EventBuckets {
 
     /// Takes the first, if it is scheduled for `time`, in clock units, or earlier.
     pub fn pop_due(&mut self, time: i64) -> Option<Tx>
-        ensures first { let due_now = due (λ e. e.time) time self.old.items in
-            result ≡ option_map (λ e. e.tx) (first due_now) }
-        ensures rest { let left = if is_some result then rest self.old.items else self.old.items in
-            self.new.items ≡ left }
+        ensures first { result ≡ first_due time self.old.items }
+        ensures rest { self.new.items ≡ rest_if (is_some result) self.old.items }
         ensures links { self.old.links ≤ self.new.links }
         ensures room { (self.old.spare ≤ self.new.spare) × (self.old.chunks ≤ self.new.chunks) }
     {

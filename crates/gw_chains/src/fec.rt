@@ -1,11 +1,12 @@
 //! The future events chain.
 
-ghost use Rattle.std.specs.Prelude.{◌≡◌, ◌≤◌, ◌<◌, ◌+◌, ◌^◌, ◌++◌, ◌∷◌, List, [], length, reverse, AllPairs, insert, if◌then◌else◌, option_map, is_some, int_le, OnOk, OnErr, IsPermutation};
+ghost use Rattle.std.specs.Prelude.{◌≡◌, ◌≤◌, ◌<◌, ◌+◌, ◌^◌, ◌++◌, List, [], length, reverse, AllPairs, insert, option_map, is_some, int_le, OnOk, OnErr, IsPermutation};
 ghost use Rattle.std.specs.Iterator.{YieldsFirstRef, item_count};
 ghost use Rattle.std.specs.Vec.{vec_capacity};
-ghost use Rattle.gw_members.specs.Chain.{in_time, due, first, rest};
+ghost use Rattle.gw_members.specs.Chain.{first, rest, rest_if};
 ghost use Rattle.gw_members.specs.declared.tx.Event.{Event};
-ghost use Rattle.gw_chains.specs.Events.{most_few, NotLater, space_beside, room_behind, room_for_events};
+ghost use Rattle.gw_members.specs.Members.{with_event, first_due};
+ghost use Rattle.gw_chains.specs.Events.{most_few, NotLater, space_beside, room_behind, room_for_events, event_room, MovesUp};
 
 use crate::event_buckets::{BucketEvents, EventBuckets};
 use gw_members::{Event, MOST, Memory, Tx};
@@ -61,8 +62,7 @@ fn is_no_later(one: Event, other: Event) -> bool
 /// Moves the last of few events, a newcomer, ahead of all that come no later. Of the others the first to come stands last.
 fn move_up(events: &mut [Event], newcomer: Event)
     requires { 0 < length events.old }
-    ensures items { (others : List Event) → events.old ≡ others ++ newcomer ∷ [] →
-        reverse events.new ≡ in_time (λ e. e.time) newcomer (reverse others) }
+    ensures items { MovesUp newcomer events.old events.new }
     ensures len { length events.new ≡ length events.old }
 {
     let mut place = events.len() - 1;
@@ -76,8 +76,7 @@ fn move_up(events: &mut [Event], newcomer: Event)
 /// Puts a newcomer among few events, of which the first to come stands last: ahead of all that come no later. There is room.
 fn insert_in_time(few: &mut Vec<Event>, newcomer: Event)
     requires { length few.old.items < vec_capacity few.old }
-    ensures items { reverse few.new.items
-        ≡ in_time (λ e. e.time) newcomer (reverse few.old.items) }
+    ensures items { reverse few.new.items ≡ with_event newcomer (reverse few.old.items) }
     ensures len { length few.new.items ≡ length few.old.items + 1 }
     ensures capacity { vec_capacity few.new ≡ vec_capacity few.old }
 {
@@ -106,12 +105,9 @@ fn reserve_more(few: &mut Vec<Event>, many: &mut EventBuckets, more: usize) -> R
     requires lacks { space_beside (length many.old.items) (vec_capacity few.old) (length few.old.items) < more }
     ensures few { few.new.items ≡ few.old.items }
     ensures many { many.new.items ≡ many.old.items }
-    ensures room { OnOk result
-        (more ≤ room_for_events (vec_capacity few.new) (length few.new.items) many.new) }
-    ensures kept { room_for_events (vec_capacity few.old) (length few.old.items) many.old
-        ≤ room_for_events (vec_capacity few.new) (length few.new.items) many.new }
-    ensures refused { OnErr result
-        (room_for_events (vec_capacity few.old) (length few.old.items) many.old < more) }
+    ensures room { OnOk result (more ≤ event_room few.new many.new) }
+    ensures kept { event_room few.old many.old ≤ event_room few.new many.new }
+    ensures refused { OnErr result (event_room few.old many.old < more) }
 {
     let count = few.len();
     if many.len() == 0 && more <= MOST_FEW - count && few.reserve(more).is_ok() {
@@ -125,10 +121,8 @@ fn reserve_more(few: &mut Vec<Event>, many: &mut EventBuckets, more: usize) -> R
 
 /// Takes the first of few events, if it is scheduled for `time` or earlier.
 fn pop_due(few: &mut Vec<Event>, time: i64) -> Option<Tx>
-    ensures first { let due_now = due (λ e. e.time) time (reverse few.old.items) in
-        result ≡ option_map (λ e. e.tx) (first due_now) }
-    ensures rest { let before = reverse few.old.items in
-        reverse few.new.items ≡ (if is_some result then rest before else before) }
+    ensures first { result ≡ first_due time (reverse few.old.items) }
+    ensures rest { reverse few.new.items ≡ rest_if (is_some result) (reverse few.old.items) }
     ensures len { length few.new.items ≤ length few.old.items }
     ensures capacity { vec_capacity few.new ≡ vec_capacity few.old }
 {
@@ -146,8 +140,7 @@ fn schedule_in_buckets(few: &mut Vec<Event>, many: &mut EventBuckets, event: Eve
     requires order { AllPairs NotLater (reverse few.old.items) }
     requires apart { 0 < length few.old.items → many.old.items ≡ [] }
     requires room { 0 < room_behind (length few.old.items) many.old }
-    ensures items { many.new.items
-        ≡ in_time (λ e. e.time) event (reverse few.old.items ++ many.old.items) }
+    ensures items { many.new.items ≡ with_event event (reverse few.old.items ++ many.old.items) }
     ensures few { few.new.items ≡ [] }
     ensures room { room_behind (length few.old.items) many.old ≤ room_behind 0 many.new + 1 }
 {
@@ -187,8 +180,7 @@ impl Fec {
     /// Puts it behind all that are scheduled for `time`, in clock units, or earlier. There is room.
     pub fn schedule(&mut self, tx: Tx, time: i64)
         requires { 0 < self.old.room }
-        ensures items { let newcomer : Event = record { tx = tx; time = time } in
-            self.new.items ≡ in_time (λ e. e.time) newcomer self.old.items }
+        ensures items { self.new.items ≡ with_event (record { tx = tx; time = time }) self.old.items }
         ensures room { self.old.room ≤ self.new.room + 1 }
     {
         let event = Event { tx, time };
@@ -211,10 +203,8 @@ impl Fec {
 
     /// Takes the first, if it is scheduled for `time`, in clock units, or earlier.
     pub fn pop_due(&mut self, time: i64) -> Option<Tx>
-        ensures first { let due_now = due (λ e. e.time) time self.old.items in
-            result ≡ option_map (λ e. e.tx) (first due_now) }
-        ensures rest { let left = if is_some result then rest self.old.items else self.old.items in
-            self.new.items ≡ left }
+        ensures first { result ≡ first_due time self.old.items }
+        ensures rest { self.new.items ≡ rest_if (is_some result) self.old.items }
         ensures room { self.old.room ≤ self.new.room }
     {
         if self.few.is_empty() {

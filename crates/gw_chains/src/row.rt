@@ -1,13 +1,13 @@
 //! Members in buckets that stand in one row: where few ranks occur.
 
-ghost use Rattle.std.specs.Prelude.{◌≡◌, ◌≤◌, ◌<◌, ◌+◌, ◌-◌, ◌^◌, ℕ, AllPairs, Some, true, false, IfSome, length, option_to_list, slice_get, remove, OnOk, OnErr};
+ghost use Rattle.std.specs.Prelude.{◌≡◌, ◌≤◌, ◌<◌, ◌+◌, ◌-◌, ◌^◌, ℕ, AllPairs, Some, true, false, IfSome, length, option_to_list, OnOk, OnErr};
 ghost use Rattle.std.specs.VecDeque.{deque_len, deque_capacity};
 ghost use Rattle.slab.specs.Slab.{get, ContainsKey, HasRoomFor};
 ghost use Rattle.gw_members.specs.Chain.{first};
-ghost use Rattle.gw_chains.specs.Buckets.{members_of, total, upto, lower, bucket_of_one, without_first_link, below, IsHead, head_host, headed_by, with_head, Before, AreBuckets, GainMember, LoseFirst};
+ghost use Rattle.gw_chains.specs.Buckets.{total, bucket_of_one, without_first_link, below, IsHead, head_host, headed_by, with_head, Before, AreBuckets, LoseFirst, GainBehind, GainAhead};
 ghost use Rattle.gw_chains.specs.Queues.{space_in, GrowsByOneAtMost, DoesNotGrow};
 ghost use Rattle.gw_chains.specs.Slots.{TakesOneSlot, TakesNoSlot, KeepsSlots, row_room};
-ghost use Rattle.gw_chains.specs.Spots.{count_at, place_at, link_at, IsSpot, led_past, without_one, without_link};
+ghost use Rattle.gw_chains.specs.Spots.{count_at, link_at, IsSpot, led_past, without_one, without_link, count_before, HasMemberAt, LoseMemberAt};
 
 use crate::bucket::{Bucket, Link, Ranked};
 use crate::buckets::{bucket_of_one, link_behind, reserve_links, shorter};
@@ -105,8 +105,7 @@ pub(crate) fn insert_behind<T: Ranked>(
     requires few { total row.old.items < 2 ^ 62 }
     requires room { deque_len row.old < deque_capacity row.old }
     requires links { HasRoomFor links.old 1 }
-    ensures gain { GainMember T.rank (upto T.rank member) member
-        (get links.old) row.old.items (get links.new) row.new.items }
+    ensures gain { GainBehind T.rank member links.old row.old.items links.new row.new.items }
     ensures room { GrowsByOneAtMost row.old row.new }
     ensures links { TakesOneSlot links.old links.new }
 {
@@ -197,8 +196,7 @@ pub(crate) fn insert_ahead<T: Ranked>(
     requires few { total row.old.items < 2 ^ 62 }
     requires room { deque_len row.old < deque_capacity row.old }
     requires links { HasRoomFor links.old 1 }
-    ensures gain { GainMember T.rank (lower T.rank member) member
-        (get links.old) row.old.items (get links.new) row.new.items }
+    ensures gain { GainAhead T.rank member links.old row.old.items links.new row.new.items }
     ensures room { GrowsByOneAtMost row.old row.new }
     ensures links { TakesOneSlot links.old links.new }
 {
@@ -304,16 +302,12 @@ pub(crate) fn unlink<T: Ranked>(
     requires spot { IsSpot (get links.old) row.old.items spot }
     requires there { spot.passed < count_at row.old.items spot.bucket }
     requires here { here ≡ link_at (get links.old) row.old.items spot.bucket spot.passed }
-    ensures value { let place = place_at row.old.items spot.bucket spot.passed in
-        slice_get (members_of (get links.old) row.old.items) place ≡ Some result }
-    ensures members { let place = place_at row.old.items spot.bucket spot.passed in
-        members_of (get links.new) row.new.items
-        ≡ remove (members_of (get links.old) row.old.items) place }
+    ensures value { HasMemberAt (count_before row.old.items spot) result links.old row.old }
+    ensures members { LoseMemberAt (count_before row.old.items spot) links.old row.old links.new row.new }
     ensures buckets { AreBuckets T.rank (get links.new) row.new.items }
     ensures total { total row.new.items + 1 ≡ total row.old.items }
     ensures spot { IsSpot (get links.new) row.new.items spot }
-    ensures place { place_at row.new.items spot.bucket spot.passed
-        ≡ place_at row.old.items spot.bucket spot.passed }
+    ensures place { count_before row.new.items spot ≡ count_before row.old.items spot }
     ensures room { DoesNotGrow row.old row.new }
     ensures links { TakesNoSlot links.old links.new }
 {
@@ -331,8 +325,7 @@ pub(crate) fn remove_member<T: Ranked>(
 )
     requires buckets { AreBuckets T.rank (get links.old) row.old.items }
     requires there { place < total row.old.items }
-    ensures members { members_of (get links.new) row.new.items
-        ≡ remove (members_of (get links.old) row.old.items) place }
+    ensures members { LoseMemberAt place links.old row.old links.new row.new }
     ensures buckets { AreBuckets T.rank (get links.new) row.new.items }
     ensures total { total row.new.items + 1 ≡ total row.old.items }
     ensures room { DoesNotGrow row.old row.new }

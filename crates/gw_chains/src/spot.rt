@@ -1,9 +1,9 @@
 //! Where a member stands among buckets in a row, as a walk over them comes to it.
 
-ghost use Rattle.std.specs.Prelude.{◌≡◌, ◌≤◌, ◌<◌, ◌⊎◌, Some, slice_get};
+ghost use Rattle.std.specs.Prelude.{◌≡◌, ◌≤◌, ◌<◌, ◌⊎◌};
 ghost use Rattle.slab.specs.Slab.{get};
-ghost use Rattle.gw_chains.specs.Buckets.{run, last_or, total, members_of, AreBuckets};
-ghost use Rattle.gw_chains.specs.Spots.{count_at, place_at, link_at, AreThere, AreFilled, IsSpot, IsSettled};
+ghost use Rattle.gw_chains.specs.Buckets.{run, last_or, total, AreBuckets};
+ghost use Rattle.gw_chains.specs.Spots.{count_at, place_at, link_at, AreThere, AreFilled, IsSpot, IsSettled, count_before, HasMemberAt};
 
 use crate::bucket::{Bucket, Link, Ranked};
 use slab::Slab;
@@ -50,8 +50,7 @@ pub(crate) fn link_at<T: Ranked>(row: &VecDeque<Bucket>, links: &Slab<Link<T>>, 
 pub(crate) fn settle(row: &VecDeque<Bucket>, spot: Spot) -> Spot
     requires filled { AreFilled row.now.items }
     requires within { spot.passed ≤ count_at row.now.items spot.bucket }
-    ensures place { place_at row.now.items result.bucket result.passed
-        ≡ place_at row.now.items spot.bucket spot.passed }
+    ensures place { count_before row.now.items result ≡ count_before row.now.items spot }
     ensures kept { (result ≡ spot) ⊎ (result.passed ≡ 0) }
     ensures settled { IsSettled row.now.items result }
 {
@@ -102,7 +101,7 @@ pub(crate) fn spot_of<T: Ranked>(
     requires there { place < total row.now.items }
     ensures spot { IsSpot (get links.now) row.now.items result }
     ensures there { result.passed < count_at row.now.items result.bucket }
-    ensures place { place_at row.now.items result.bucket result.passed ≡ place }
+    ensures place { count_before row.now.items result ≡ place }
 {
     let (bucket, passed) = bucket_of(row, place);
     let before = last_link(links, row[bucket].first, passed);
@@ -117,7 +116,7 @@ pub(crate) fn spot_of<T: Ranked>(
 pub(crate) fn member_at<T: Ranked>(row: &VecDeque<Bucket>, links: &Slab<Link<T>>, place: usize) -> T
     requires buckets { AreBuckets T.rank (get links.now) row.now.items }
     requires there { place < total row.now.items }
-    ensures { slice_get (members_of (get links.now) row.now.items) place ≡ Some result }
+    ensures { HasMemberAt place result links.now row.now }
 {
     if place == 0 {
         return links[row[0].first].member;

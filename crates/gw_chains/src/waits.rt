@@ -1,11 +1,12 @@
 //! The delay lists and the retry list.
 
-ghost use Rattle.std.specs.Prelude.{◌≡◌, ◌≤◌, ◌<◌, ◌+◌, ◌⊎◌, ◌↔◌, [], ◌∷◌, ◌++◌, length, option_map, slice_get, remove, replicate, sum_by, EachIndex, SomeIndex, IfOk, IsSome, OnOk, OnErr};
+ghost use Rattle.std.specs.Prelude.{◌≡◌, ◌≤◌, ◌<◌, ◌+◌, ◌↔◌, [], ◌∷◌, ◌++◌, length, replicate, sum_by, EachIndex, IfOk, IsSome, OnOk, OnErr};
 ghost use Rattle.std.specs.VecDeque.{deque_capacity};
 ghost use Rattle.gw_num.specs.Table.{at};
-ghost use Rattle.gw_members.specs.Chain.{behind, all_behind};
-ghost use Rattle.gw_members.specs.Lists.{changed, LosesRoom};
-ghost use Rattle.gw_members.specs.declared.tx.Member.{Member};
+ghost use Rattle.gw_members.specs.Chain.{all_behind};
+ghost use Rattle.gw_members.specs.Lists.{changed, LosesRoom, without_at};
+ghost use Rattle.gw_members.specs.Members.{member_of, behind_peers, tx_at};
+ghost use Rattle.gw_chains.specs.Waiting.{LacksRoom};
 
 use crate::Cec;
 use crate::delay_list::{DelayList, Waiters};
@@ -101,8 +102,7 @@ impl Waits {
         ensures retry_room { OnOk result (more ≤ self.new.retry_room) }
         ensures kept { LosesRoom 0 self.old.rooms self.new.rooms }
         ensures retry_kept { self.old.retry_room ≤ self.new.retry_room }
-        ensures refused { OnErr result ((self.old.retry_room < more)
-            ⊎ SomeIndex self.old.lists (λ e. at 0 self.old.rooms e < more)) }
+        ensures refused { OnErr result (LacksRoom more self.old) }
     {
         self.retry.reserve(more)?;
         for e in 0..self.delay_lists.len() {
@@ -132,8 +132,7 @@ impl Waits {
     pub fn push_wait(&mut self, entity: u16, tx: Tx, priority: i32)
         requires there { entity < length self.old.lists }
         requires room { 0 < at 0 self.old.rooms entity }
-        ensures lists { let newcomer : Member = record { tx = tx; priority = priority } in
-            self.new.lists ≡ changed entity (behind (λ m. m.priority) newcomer) self.old.lists }
+        ensures lists { self.new.lists ≡ changed entity (behind_peers tx priority) self.old.lists }
         ensures count { length self.new.lists ≡ length self.old.lists }
         ensures retry { self.new.retry ≡ self.old.retry }
         ensures room { LosesRoom 1 self.old.rooms self.new.rooms }
@@ -146,8 +145,7 @@ impl Waits {
     /// The transaction at this place, from 0, of the delay list of this entity, if there is one.
     pub fn waiter(&self, entity: u16, place: usize) -> Option<Tx>
         requires { entity < length self.now.lists }
-        ensures { let delay_list = at [] self.now.lists entity in
-            result ≡ option_map (λ m. m.tx) (slice_get delay_list place) }
+        ensures { result ≡ tx_at place (at [] self.now.lists entity) }
     {
         self.delay_lists[entity as usize].get(place)
     }
@@ -173,7 +171,7 @@ impl Waits {
     pub fn remove(&mut self, entity: u16, place: usize)
         requires there { entity < length self.old.lists }
         requires place { place < length (at [] self.old.lists entity) }
-        ensures lists { self.new.lists ≡ changed entity (λ xs. remove xs place) self.old.lists }
+        ensures lists { self.new.lists ≡ without_at entity place self.old.lists }
         ensures count { length self.new.lists ≡ length self.old.lists }
         ensures retry { self.new.retry ≡ self.old.retry }
         ensures room { LosesRoom 0 self.old.rooms self.new.rooms }
@@ -199,8 +197,7 @@ impl Waits {
     /// at the end.
     pub fn current(&self, entity: u16) -> Option<Tx>
         requires { entity < length self.now.lists }
-        ensures value { let delay_list = at [] self.now.lists entity in
-            result ≡ option_map (λ m. m.tx) (slice_get delay_list (at 0 self.now.places entity)) }
+        ensures value { result ≡ tx_at (at 0 self.now.places entity) (at [] self.now.lists entity) }
         ensures there { IsSome result
             ↔ (at 0 self.now.places entity < length (at [] self.now.lists entity)) }
     {
@@ -226,8 +223,7 @@ impl Waits {
     pub fn take(&mut self, entity: u16)
         requires there { entity < length self.old.lists }
         requires place { at 0 self.old.places entity < length (at [] self.old.lists entity) }
-        ensures lists { let place = at 0 self.old.places entity in
-            self.new.lists ≡ changed entity (λ xs. remove xs place) self.old.lists }
+        ensures lists { self.new.lists ≡ without_at entity (at 0 self.old.places entity) self.old.lists }
         ensures place { at 0 self.new.places entity ≡ at 0 self.old.places entity }
         ensures count { length self.new.lists ≡ length self.old.lists }
         ensures retry { self.new.retry ≡ self.old.retry }
@@ -241,8 +237,7 @@ impl Waits {
     /// Puts it at the end of the retry list, which remembers its priority. There is room.
     pub fn push_retry(&mut self, tx: Tx, priority: i32)
         requires { 0 < self.old.retry_room }
-        ensures retry { let newcomer : Member = record { tx = tx; priority = priority } in
-            self.new.retry ≡ self.old.retry ++ newcomer ∷ [] }
+        ensures retry { self.new.retry ≡ self.old.retry ++ member_of tx priority ∷ [] }
         ensures lists { self.new.lists ≡ self.old.lists }
         ensures room { LosesRoom 1 self.old.rooms self.new.rooms }
         ensures retry_room { self.old.retry_room ≤ self.new.retry_room + 1 }

@@ -3,7 +3,7 @@
 ghost use Rattle.std.specs.Prelude.{◌≡◌, ◌≤◌, ◌<◌, ◌+◌, ◌^◌};
 ghost use Rattle.slab.specs.Slab.{get};
 ghost use Rattle.gw_chains.specs.Buckets.{total, AreBuckets};
-ghost use Rattle.gw_chains.specs.Spots.{count_at, first_at, place_at, IsSpot, IsWalk, IsToBegin, IsWalkOrBegins};
+ghost use Rattle.gw_chains.specs.Spots.{count_at, first_at, IsSpot, IsWalk, IsToBegin, IsWalkOrBegins, count_before};
 
 use crate::bucket::{Bucket, Link, Ranked};
 use crate::spot::{Spot, link_at, settle, start_of};
@@ -64,8 +64,7 @@ pub(crate) fn begin_walk<T: Ranked>(
     requires buckets { AreBuckets T.rank (get _links.now) row.now.items }
     requires walk { IsWalkOrBegins (get _links.now) row.now.items walk }
     ensures walk { IsWalk (get _links.now) row.now.items result }
-    ensures place { place_at row.now.items result.spot.bucket result.spot.passed
-        ≡ place_at row.now.items walk.spot.bucket walk.spot.passed }
+    ensures place { count_before row.now.items result.spot ≡ count_before row.now.items walk.spot }
 {
     if walk.left == 0 {
         return walk_from(row, walk.spot.bucket);
@@ -78,8 +77,7 @@ pub(crate) fn walk_at<T: Ranked>(row: &VecDeque<Bucket>, links: &Slab<Link<T>>, 
     requires buckets { AreBuckets T.rank (get links.now) row.now.items }
     requires spot { IsSpot (get links.now) row.now.items spot }
     ensures walk { IsWalk (get links.now) row.now.items result }
-    ensures place { place_at row.now.items result.spot.bucket result.spot.passed
-        ≡ place_at row.now.items spot.bucket spot.passed }
+    ensures place { count_before row.now.items result.spot ≡ count_before row.now.items spot }
 {
     if spot.passed == 0 {
         return walk_from(row, spot.bucket);
@@ -102,8 +100,7 @@ pub(crate) fn advance<T: Ranked>(walk: &mut Walk, row: &VecDeque<Bucket>, links:
     requires walk { IsWalk (get links.now) row.now.items walk.old }
     requires there { 0 < walk.old.left }
     ensures walk { IsWalk (get links.now) row.now.items walk.new }
-    ensures place { place_at row.now.items walk.new.spot.bucket walk.new.spot.passed
-        ≡ place_at row.now.items walk.old.spot.bucket walk.old.spot.passed + 1 }
+    ensures place { count_before row.now.items walk.new.spot ≡ count_before row.now.items walk.old.spot + 1 }
 {
     if walk.left == 1 {
         *walk = walk_from(row, walk.spot.bucket + 1);

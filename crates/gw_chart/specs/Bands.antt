@@ -1,14 +1,19 @@
 -- The least and the greatest of what was in entities for a while.
-use Rattle.std.specs.Prelude.{ℕ, ◌+◌, ℤ, pos, List, [], ◌∷◌, slice_index_or}
+use Rattle.std.specs.Prelude.{ℕ, ◌+◌, ℤ, pos, List, [], ◌∷◌, map, slice_index_or}
 use Rattle.std.specs.Int.{int_min, int_max}
 use Rattle.gw_object.specs.declared.parts.Entity.{Entity}
+use Rattle.gw_step.specs.Job.{Job}
 use Rattle.gw_step.specs.State.{State}
 use Rattle.gw_chart.specs.declared.bands.Band.{Band}
-use Rattle.gw_chart.specs.Contents.{content_of}
+use Rattle.gw_chart.specs.Contents.{content_of, contents_from}
 
 -- of one value
 abbrev pub band_of : ℤ → Band
 band_of value = record { least = value; greatest = value }
+
+-- those of what is in each entity of a job in a state
+abbrev pub bands_at : Job → State → List Band
+bands_at j s = map band_of (contents_from s 0 j.parts.entities)
 
 -- that of the entity of a number, where each entity has one
 abbrev pub band_in : List Band → ℕ → Band

@@ -12,5 +12,7 @@ pub mod Bars
 pub mod Document
 -- THE SAME AS RECORDS
 pub mod Sheets
+-- THE SAME, BY WHAT THE CODE HAS OF IT
+pub mod Views
 -- THE CHARTS OF A RUN
 pub mod Charts

@@ -21,6 +21,11 @@ use Rattle.gw_chart.specs.Lines.{content, band_at}
 abbrev pub crlf_writer : WriterBuilder
 crlf_writer = with_terminator default_writer term.CRLF
 
+-- a record of these fields
+abbrev pub csv_row : List ℕ → List ℕ → List ℕ → List ℕ → List ℕ → List ℕ → List ℕ
+csv_row time kind name value least greatest =
+    row_text crlf_writer (time ∷ kind ∷ name ∷ value ∷ least ∷ greatest ∷ [])
+
 -- the word of the kind of entity of which this is drawn
 abbrev pub word_of : Plot → List ℕ
 word_of Owned = codes "FACILITY"
@@ -33,13 +38,12 @@ word_of Classes = codes "TABLE"
 
 -- what the fields are
 unfoldable pub heading : List ℕ
-heading = row_text crlf_writer (codes "time" ∷ codes "kind" ∷ codes "entity" ∷ codes "value" ∷ codes "least" ∷ codes "greatest" ∷ [])
+heading = csv_row (codes "time") (codes "kind") (codes "entity") (codes "value") (codes "least") (codes "greatest")
 
 -- the record of what was in an entity of a name at a time, and the least and the greatest since the time before
 unfoldable pub line : Plot → List ℕ → ℤ → ℤ → Band → List ℕ
 line plot name time value band =
-    row_text crlf_writer
-    (signed_decimal time ∷ word_of plot ∷ name ∷ signed_decimal value ∷ signed_decimal band.least ∷ signed_decimal band.greatest ∷ [])
+    csv_row (signed_decimal time) (word_of plot) name (signed_decimal value) (signed_decimal band.least) (signed_decimal band.greatest)
 
 -- the record of the first moment, before which there is none
 abbrev pub first_line : Plot → List ℕ → Window → List (List ℤ) → ℕ → List ℕ

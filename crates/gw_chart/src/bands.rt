@@ -3,7 +3,7 @@
 ghost use Rattle.std.specs.Prelude.{◌≡◌, ◌≤◌, ◌<◌, length, map, IfOk, OnOk};
 ghost use Rattle.gw_model_jobs.specs.Running.{AreStillAt};
 ghost use Rattle.gw_chart.specs.Bands as model;
-ghost use Rattle.gw_chart.specs.Contents.{contents_from, content_of as content_in};
+ghost use Rattle.gw_chart.specs.Contents.{content_of as content_in};
 
 use crate::contents::{content_of, contents};
 use gw_object::{Kind, Memory};
@@ -42,8 +42,8 @@ fn bands_of(alloc: Global, row: &[i64]) -> Result<Vec<Band>, Memory>
 
 /// Those of what is in each entity.
 pub(crate) fn bands_now(alloc: Global, sim: &Sim) -> Result<Vec<Band>, Memory>
-    ensures { IfOk result (λ bands. bands.items
-        ≡ map model.band_of (contents_from sim.now.state 0 sim.now.job.parts.entities)) }
+    ensures { IfOk result (λ bands.
+        bands.items ≡ model.bands_at sim.now.job sim.now.state) }
 {
     let row = contents(alloc, sim)?;
     bands_of(alloc, row.as_slice())

@@ -1,7 +1,9 @@
 //! The document: a panel for each facility, storage, queue, switch, user chain, savevalue and table, one below the other.
 
-ghost use Rattle.std.specs.Prelude.{◌≡◌, ◌≤◌, ◌<◌, ◌+◌, ◌*◌, ◌++◌, length, OnOk};
+ghost use Rattle.std.specs.Prelude.{◌≡◌, ◌≤◌, ◌<◌, ◌+◌, ◌*◌, length};
 ghost use Rattle.gw_chart.specs.Document as model;
+ghost use Rattle.gw_chart.specs.Views as views;
+ghost use Rattle.gw_report.specs.Report.{Puts};
 
 use crate::bars::put_bar_panel;
 use crate::line::{limit_of, put_line_panel};
@@ -49,7 +51,7 @@ fn begins_at(entities: &[Entity], number: usize) -> u64
 
 /// What the title begins with: the name of what is run, if it has one.
 fn put_subject(out: &mut Vec<u8>, name: &[u8]) -> Result<(), Memory>
-    ensures { OnOk result (out.new.items ≡ out.old.items ++ model.subject name.now) }
+    ensures { Puts result out.old out.new (model.subject name.now) }
 {
     if name.is_empty() {
         return put(out, "One run");
@@ -60,7 +62,7 @@ fn put_subject(out: &mut Vec<u8>, name: &[u8]) -> Result<(), Memory>
 
 /// When the run ends, where more of it lies behind the window.
 fn put_ending(out: &mut Vec<u8>, to: u64, end: u64) -> Result<(), Memory>
-    ensures { OnOk result (out.new.items ≡ out.old.items ++ model.ending to end) }
+    ensures { Puts result out.old out.new (model.ending to end) }
 {
     if end <= to {
         return Ok(());
@@ -72,7 +74,7 @@ fn put_ending(out: &mut Vec<u8>, to: u64, end: u64) -> Result<(), Memory>
 /// The title: what is run, from where to where it is shown, and when it ends.
 #[tactic(auto, unfolding(crate::specs::Document::heading))]
 fn put_heading(out: &mut Vec<u8>, name: &[u8], window: Window, end: u64) -> Result<(), Memory>
-    ensures { OnOk result (out.new.items ≡ out.old.items ++ model.heading name.now window end) }
+    ensures { Puts result out.old out.new (model.heading name.now window end) }
 {
     put_subject(out, name)?;
     put(out, ", from clock ")?;
@@ -90,7 +92,7 @@ fn put_head(
     window: Window,
     end: u64,
 ) -> Result<(), Memory>
-    ensures { OnOk result (out.new.items ≡ out.old.items ++ model.head height name.now window end) }
+    ensures { Puts result out.old out.new (model.head height name.now window end) }
 {
     put(
         out,
@@ -121,8 +123,7 @@ fn put_drawn(
     entity: &Entity,
 ) -> Result<(), Memory>
     requires { number < length sim.now.job.parts.entities }
-    ensures { OnOk result (out.new.items ≡ out.old.items
-        ++ model.drawn entity.now.kind plot entity.now.name window sim.now.state seen.now.rows.items seen.now.bands.items number) }
+    ensures { Puts result out.old out.new (views.drawing_of plot window sim.now seen.now number entity.now) }
 {
     let name = entity.name.as_slice();
     match &entity.kind {
@@ -148,8 +149,7 @@ fn put_panel_of(
     entity: &Entity,
 ) -> Result<(), Memory>
     requires { number < length sim.now.job.parts.entities }
-    ensures { OnOk result (out.new.items ≡ out.old.items
-        ++ model.panel_of window sim.now.state seen.now.rows.items seen.now.bands.items y number entity.now) }
+    ensures { Puts result out.old out.new (views.panel_of window sim.now seen.now y number entity.now) }
 {
     let Some(plot) = plot_of(&entity.kind) else {
         return Ok(());
@@ -170,8 +170,7 @@ fn put_panel_at(
     number: u16,
 ) -> Result<(), Memory>
     requires { number < length sim.now.job.parts.entities }
-    ensures { OnOk result (out.new.items ≡ out.old.items
-        ++ model.panel_at window sim.now.state seen.now.rows.items seen.now.bands.items sim.now.job.parts.entities number) }
+    ensures { Puts result out.old out.new (views.panel_at window sim.now seen.now number) }
 {
     let entities = sim.spec().verified().object().parts().entities.as_slice();
     match entities.get(number as usize) {
@@ -194,8 +193,7 @@ fn put_panels(
 ) -> Result<(), Memory>
     requires count { count ≡ length sim.now.job.parts.entities }
     requires few { count ≤ 1024 }
-    ensures { OnOk result (out.new.items ≡ out.old.items
-        ++ model.panels window sim.now.state seen.now.rows.items seen.now.bands.items sim.now.job.parts.entities) }
+    ensures { Puts result out.old out.new (views.panels window sim.now seen.now) }
 {
     for i in 0..count {
         put_panel_at(out, window, sim, seen, i as u16)?;
@@ -212,8 +210,7 @@ pub(crate) fn put_document(
     sim: &Sim,
     seen: &Samples,
 ) -> Result<(), Memory>
-    ensures { OnOk result (out.new.items ≡ out.old.items
-        ++ model.document name.now window sim.now.job.parts sim.now.state seen.now.rows.items seen.now.bands.items) }
+    ensures { Puts result out.old out.new (views.document name.now window sim.now seen.now) }
 {
     let entities = sim.spec().verified().object().parts().entities.as_slice();
     let height = begins_at(entities, entities.len());

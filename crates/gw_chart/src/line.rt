@@ -1,10 +1,13 @@
 //! What is in an entity over time, as a line.
 
-ghost use Rattle.std.specs.Prelude.{◌≡◌, ◌≤◌, ◌<◌, ◌*◌, ◌+◌, ◌/◌, ◌++◌, length, OnOk};
+ghost use Rattle.std.specs.Prelude.{◌≡◌, ◌≤◌, ◌<◌, ◌*◌, ◌+◌, ◌/◌, length};
 ghost use Rattle.std.specs.Int.{div_ceil};
 ghost use Rattle.gw_drawing.specs.Numbers.{round_step as step_of, greatest as greatest_of};
 ghost use Rattle.gw_chart.specs.Plots.{height_at as place_of_number};
 ghost use Rattle.gw_chart.specs.Lines as model;
+ghost use Rattle.gw_chart.specs.Views as views;
+ghost use Rattle.gw_chart.specs.Views.{of_bands, of_curve};
+ghost use Rattle.gw_report.specs.Report.{Puts};
 
 use crate::axis::Axis;
 use crate::bands::{Band, band_of};
@@ -45,7 +48,7 @@ fn place_of(span: u64, part: u64) -> u64
 fn put_clock(out: &mut Vec<u8>, plot: Plot, from: u64, span: u64, time: u128) -> Result<(), Memory>
     requires span { 0 < span }
     requires within { (from ≤ time) × (time ≤ from + span) }
-    ensures { OnOk result (out.new.items ≡ out.old.items ++ model.clock plot from span time) }
+    ensures { Puts result out.old out.new (model.clock plot from span time) }
 {
     let x = place_of(span, (time - from as u128) as u64);
     put_upright_line(out, x, plot)?;
@@ -67,7 +70,7 @@ fn put_clocks_by(
     step: u128,
 ) -> Result<(), Memory>
     requires { (0 < span) × (0 < step) }
-    ensures { OnOk result (out.new.items ≡ out.old.items ++ model.clocks_by plot from span step) }
+    ensures { Puts result out.old out.new (model.clocks_by plot from span step) }
 {
     let first = (from as u128).div_ceil(step);
     let behind = (from as u128 + span as u128) / step + 1;
@@ -81,7 +84,7 @@ fn put_clocks_by(
 #[tactic(auto, unfolding(crate::specs::Lines::clocks))]
 fn put_clocks(out: &mut Vec<u8>, plot: Plot, from: u64, span: u64) -> Result<(), Memory>
     requires { 0 < span }
-    ensures { OnOk result (out.new.items ≡ out.old.items ++ model.clocks plot from span) }
+    ensures { Puts result out.old out.new (model.clocks plot from span) }
 {
     put_clocks_by(out, plot, from, span, round_step(span))
 }
@@ -136,7 +139,7 @@ fn least_in(bands: &[Items<Band>], entity: usize) -> u64
 /// A point: a moment, by its number, and a place.
 fn put_point(out: &mut Vec<u8>, moment: u64, y: u64) -> Result<(), Memory>
     requires { moment ≤ 499 }
-    ensures { OnOk result (out.new.items ≡ out.old.items ++ model.point moment y) }
+    ensures { Puts result out.old out.new (model.point moment y) }
 {
     put(out, " ")?;
     put_tenths(out, 800 + scaled(6200, moment, 499))?;
@@ -147,7 +150,7 @@ fn put_point(out: &mut Vec<u8>, moment: u64, y: u64) -> Result<(), Memory>
 /// A line that goes up or down at a moment.
 fn put_turn(out: &mut Vec<u8>, moment: u64, from: u64, to: u64) -> Result<(), Memory>
     requires { moment ≤ 499 }
-    ensures { OnOk result (out.new.items ≡ out.old.items ++ model.turn moment from to) }
+    ensures { Puts result out.old out.new (model.turn moment from to) }
 {
     put_point(out, moment, from)?;
     put_point(out, moment, to)
@@ -156,8 +159,7 @@ fn put_turn(out: &mut Vec<u8>, moment: u64, from: u64, to: u64) -> Result<(), Me
 /// The points at the moment after this one: none where nothing changed.
 fn put_points_after(out: &mut Vec<u8>, curve: &Curve<'_>, moment: usize) -> Result<(), Memory>
     requires { moment < 499 }
-    ensures { OnOk result (out.new.items ≡ out.old.items
-        ++ model.points_after curve.now.plot curve.now.axis curve.now.seen.now.rows.items curve.now.entity moment) }
+    ensures { Puts result out.old out.new (of_curve model.points_after curve.now moment) }
 {
     let from = content(curve.seen.rows.as_slice(), curve.entity, moment);
     let to = content(curve.seen.rows.as_slice(), curve.entity, moment + 1);
@@ -175,8 +177,7 @@ fn put_points_after(out: &mut Vec<u8>, curve: &Curve<'_>, moment: usize) -> Resu
 /// The point at a moment, by its number, where a content is shown.
 fn put_point_at(out: &mut Vec<u8>, curve: &Curve<'_>, moment: usize) -> Result<(), Memory>
     requires { moment ≤ 499 }
-    ensures { OnOk result (out.new.items ≡ out.old.items
-        ++ model.point_at curve.now.plot curve.now.axis curve.now.seen.now.rows.items curve.now.entity moment) }
+    ensures { Puts result out.old out.new (of_curve model.point_at curve.now moment) }
 {
     let value = content(curve.seen.rows.as_slice(), curve.entity, moment);
     let y = height_at(curve.plot, curve.axis, value);
@@ -186,8 +187,7 @@ fn put_point_at(out: &mut Vec<u8>, curve: &Curve<'_>, moment: usize) -> Result<(
 /// The points at all moments after the first.
 #[tactic(auto, unfolding(crate::specs::Lines::turns))]
 fn put_turns(out: &mut Vec<u8>, curve: &Curve<'_>) -> Result<(), Memory>
-    ensures { OnOk result (out.new.items ≡ out.old.items
-        ++ model.turns curve.now.plot curve.now.axis curve.now.seen.now.rows.items curve.now.entity) }
+    ensures { Puts result out.old out.new (of_curve model.turns curve.now) }
 {
     for i in 0..499 {
         put_points_after(out, curve, i)?;
@@ -198,8 +198,7 @@ fn put_turns(out: &mut Vec<u8>, curve: &Curve<'_>) -> Result<(), Memory>
 /// The points of a line over the moments: it goes level from moment to moment, and up or down where the content changes.
 #[tactic(auto, unfolding(crate::specs::Lines::points))]
 fn put_points(out: &mut Vec<u8>, curve: &Curve<'_>) -> Result<(), Memory>
-    ensures { OnOk result (out.new.items ≡ out.old.items
-        ++ model.points curve.now.plot curve.now.axis curve.now.seen.now.rows.items curve.now.entity) }
+    ensures { Puts result out.old out.new (of_curve model.points curve.now) }
 {
     put_point_at(out, curve, 0)?;
     put_turns(out, curve)?;
@@ -209,8 +208,7 @@ fn put_points(out: &mut Vec<u8>, curve: &Curve<'_>) -> Result<(), Memory>
 /// The line.
 #[tactic(auto, unfolding(crate::specs::Lines::line))]
 fn put_polyline(out: &mut Vec<u8>, curve: &Curve<'_>) -> Result<(), Memory>
-    ensures { OnOk result (out.new.items ≡ out.old.items
-        ++ model.line curve.now.plot curve.now.axis curve.now.seen.now.rows.items curve.now.entity) }
+    ensures { Puts result out.old out.new (of_curve model.line curve.now) }
 {
     put(out, "<polyline fill=\"none\" stroke=\"")?;
     put(out, colour_of(curve.plot))?;
@@ -249,7 +247,7 @@ fn put_stroke(
     moment: u64,
 ) -> Result<(), Memory>
     requires { moment < 499 }
-    ensures { OnOk result (out.new.items ≡ out.old.items ++ model.stroke plot axis band moment) }
+    ensures { Puts result out.old out.new (model.stroke plot axis band moment) }
 {
     put(out, "M")?;
     put_tenths(out, 800 + scaled(6200, 2 * moment + 1, 998))?;
@@ -262,9 +260,7 @@ fn put_stroke(
 /// The stroke between a moment and the next, where there is one.
 fn put_stroke_at(out: &mut Vec<u8>, curve: &Curve<'_>, moment: usize) -> Result<(), Memory>
     requires { moment < 499 }
-    ensures { OnOk result (out.new.items ≡ out.old.items
-        ++ model.stroke_at curve.now.plot curve.now.axis curve.now.seen.now.rows.items
-        curve.now.seen.now.bands.items curve.now.entity moment) }
+    ensures { Puts result out.old out.new (of_bands model.stroke_at curve.now moment) }
 {
     let before = content(curve.seen.rows.as_slice(), curve.entity, moment);
     let behind = content(curve.seen.rows.as_slice(), curve.entity, moment + 1);
@@ -278,9 +274,7 @@ fn put_stroke_at(out: &mut Vec<u8>, curve: &Curve<'_>, moment: usize) -> Result<
 /// Those between all moments.
 #[tactic(auto, unfolding(crate::specs::Lines::strokes))]
 fn put_strokes(out: &mut Vec<u8>, curve: &Curve<'_>) -> Result<(), Memory>
-    ensures { OnOk result (out.new.items ≡ out.old.items
-        ++ model.strokes curve.now.plot curve.now.axis curve.now.seen.now.rows.items
-        curve.now.seen.now.bands.items curve.now.entity) }
+    ensures { Puts result out.old out.new (of_bands model.strokes curve.now) }
 {
     for i in 0..499 {
         put_stroke_at(out, curve, i)?;
@@ -291,9 +285,7 @@ fn put_strokes(out: &mut Vec<u8>, curve: &Curve<'_>) -> Result<(), Memory>
 /// What came and went.
 #[tactic(auto, unfolding(crate::specs::Lines::peaks))]
 fn put_peaks(out: &mut Vec<u8>, curve: &Curve<'_>) -> Result<(), Memory>
-    ensures { OnOk result (out.new.items ≡ out.old.items
-        ++ model.peaks curve.now.plot curve.now.axis curve.now.seen.now.rows.items
-        curve.now.seen.now.bands.items curve.now.entity) }
+    ensures { Puts result out.old out.new (of_bands model.peaks curve.now) }
 {
     put(out, "<path stroke-opacity=\"0.4\" stroke=\"")?;
     put(out, colour_of(curve.plot))?;
@@ -340,7 +332,7 @@ fn limit_at(plot: Plot, axis: Axis, limit: u32) -> u64
 
 /// A dashed level line at a limit.
 fn put_limit(out: &mut Vec<u8>, plot: Plot, axis: Axis, limit: u32) -> Result<(), Memory>
-    ensures { OnOk result (out.new.items ≡ out.old.items ++ model.limit plot axis limit) }
+    ensures { Puts result out.old out.new (model.limit plot axis limit) }
 {
     put(out, "<path d=\"M80.0 ")?;
     put_tenths(out, limit_at(plot, axis, limit))?;
@@ -354,7 +346,7 @@ fn put_limit_line(
     axis: Axis,
     limit: Option<u32>,
 ) -> Result<(), Memory>
-    ensures { OnOk result (out.new.items ≡ out.old.items ++ model.limit_line plot axis limit) }
+    ensures { Puts result out.old out.new (model.limit_line plot axis limit) }
 {
     match limit {
         Some(limit) => put_limit(out, plot, axis, limit),
@@ -371,8 +363,7 @@ fn put_axes(
     window: Window,
     limit: Option<u32>,
 ) -> Result<(), Memory>
-    ensures { OnOk result (out.new.items ≡ out.old.items
-        ++ model.axes axis plot name.now window limit) }
+    ensures { Puts result out.old out.new (model.axes axis plot name.now window limit) }
 {
     put_title(out, name, plot)?;
     put_unit(out, plot)?;
@@ -395,8 +386,7 @@ fn put_panel_to(
     limit: Option<u32>,
 ) -> Result<(), Memory>
     requires { 0 < most }
-    ensures { OnOk result (out.new.items ≡ out.old.items
-        ++ model.panel_to most depth limit plot name.now seen.now.rows.items seen.now.bands.items entity window) }
+    ensures { Puts result out.old out.new (views.panel_to most depth limit plot name.now seen.now entity window) }
 {
     let axis = axis_to(reach_to(most, limit), depth);
     put_axes(out, plot, name, axis, window, limit)?;
@@ -421,8 +411,7 @@ pub(crate) fn put_line_panel(
     window: Window,
     limit: Option<u32>,
 ) -> Result<(), Memory>
-    ensures { OnOk result (out.new.items ≡ out.old.items
-        ++ model.line_panel plot name.now seen.now.rows.items seen.now.bands.items entity window limit) }
+    ensures { Puts result out.old out.new (views.line_panel plot name.now seen.now entity window limit) }
 {
     let most = most_in(seen.bands.as_slice(), entity);
     put_panel_to(

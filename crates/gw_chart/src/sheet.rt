@@ -1,8 +1,12 @@
 //! What was in each entity at each moment, as records.
 
-ghost use Rattle.std.specs.Prelude.{◌≡◌, ◌≤◌, ◌<◌, ◌++◌, ◌∷◌, [], length, map, IfOk, OnOk};
+ghost use Rattle.std.specs.Prelude.{◌≡◌, ◌<◌, map, IfOk};
 ghost use Rattle.csv.specs.Writing.{row_text};
 ghost use Rattle.gw_chart.specs.Sheets as model;
+ghost use Rattle.gw_chart.specs.Sheets.{csv_row};
+ghost use Rattle.gw_chart.specs.Views as views;
+ghost use Rattle.gw_chart.specs.Views.{of_series};
+ghost use Rattle.gw_report.specs.Report.{Puts};
 
 use crate::bands::{Band, band_of};
 use crate::line::{band_at, content};
@@ -35,8 +39,7 @@ fn record_of(alloc: Global, fields: &[&[u8]]) -> Result<Vec<u8>, Memory>
 
 /// A record of fields, behind others.
 fn put_record(alloc: Global, out: &mut Vec<u8>, fields: &[&[u8]]) -> Result<(), Memory>
-    ensures { OnOk result (out.new.items ≡ out.old.items
-        ++ row_text model.crlf_writer (map (λ field. field.now) fields.now)) }
+    ensures { Puts result out.old out.new (row_text model.crlf_writer (map (λ f. f.now) fields.now)) }
 {
     let record = record_of(alloc, fields)?;
     out.extend_from_slice(&record)
@@ -45,7 +48,7 @@ fn put_record(alloc: Global, out: &mut Vec<u8>, fields: &[&[u8]]) -> Result<(), 
 /// What the fields are.
 #[tactic(auto, unfolding(crate::specs::Sheets::heading))]
 fn put_heading(alloc: Global, out: &mut Vec<u8>) -> Result<(), Memory>
-    ensures { OnOk result (out.new.items ≡ out.old.items ++ model.heading) }
+    ensures { Puts result out.old out.new model.heading }
 {
     put_record(
         alloc,
@@ -80,8 +83,7 @@ fn put_fields(
     least: &[u8],
     greatest: &[u8],
 ) -> Result<(), Memory>
-    ensures { OnOk result (out.new.items ≡ out.old.items ++ row_text model.crlf_writer
-        (time.now ∷ kind.now ∷ name.now ∷ value.now ∷ least.now ∷ greatest.now ∷ [])) }
+    ensures { Puts result out.old out.new (csv_row time.now kind.now name.now value.now least.now greatest.now) }
 {
     put_record(alloc, out, &[time, kind, name, value, least, greatest])
 }
@@ -97,8 +99,7 @@ fn put_line(
     value: i64,
     band: Band,
 ) -> Result<(), Memory>
-    ensures { OnOk result (out.new.items ≡ out.old.items
-        ++ model.line plot name.now time.0 value band) }
+    ensures { Puts result out.old out.new (model.line plot name.now time.0 value band) }
 {
     let mut clock = Buffer::new();
     let mut number = Buffer::new();
@@ -133,8 +134,7 @@ struct Series<'a> {
 
 /// The record of the first moment.
 fn put_first_line(alloc: Global, out: &mut Vec<u8>, series: &Series<'_>) -> Result<(), Memory>
-    ensures { OnOk result (out.new.items ≡ out.old.items ++ model.first_line series.now.plot
-        series.now.name.now series.now.window series.now.seen.now.rows.items series.now.entity) }
+    ensures { Puts result out.old out.new (views.first_line series.now) }
 {
     let value = content(series.seen.rows.as_slice(), series.entity, 0);
     let time = moment(series.window, 0);
@@ -157,9 +157,7 @@ fn put_line_behind(
     i: usize,
 ) -> Result<(), Memory>
     requires { i < 499 }
-    ensures { OnOk result (out.new.items ≡ out.old.items ++ model.line_behind series.now.plot
-        series.now.name.now series.now.window series.now.seen.now.rows.items
-        series.now.seen.now.bands.items series.now.entity i) }
+    ensures { Puts result out.old out.new (of_series model.line_behind series.now i) }
 {
     let before = moment(series.window, i as u64);
     let behind = moment(series.window, i as u64 + 1);
@@ -174,9 +172,7 @@ fn put_line_behind(
 /// The records of the moments behind the first.
 #[tactic(auto, unfolding(crate::specs::Sheets::lines_behind))]
 fn put_lines_behind(alloc: Global, out: &mut Vec<u8>, series: &Series<'_>) -> Result<(), Memory>
-    ensures { OnOk result (out.new.items ≡ out.old.items ++ model.lines_behind series.now.plot
-        series.now.name.now series.now.window series.now.seen.now.rows.items
-        series.now.seen.now.bands.items series.now.entity) }
+    ensures { Puts result out.old out.new (of_series model.lines_behind series.now) }
 {
     for i in 0..499 {
         put_line_behind(alloc, out, series, i)?;
@@ -186,9 +182,7 @@ fn put_lines_behind(alloc: Global, out: &mut Vec<u8>, series: &Series<'_>) -> Re
 
 /// The records of all moments.
 fn put_lines(alloc: Global, out: &mut Vec<u8>, series: &Series<'_>) -> Result<(), Memory>
-    ensures { OnOk result (out.new.items ≡ out.old.items ++ model.lines_of series.now.plot
-        series.now.name.now series.now.window series.now.seen.now.rows.items
-        series.now.seen.now.bands.items series.now.entity) }
+    ensures { Puts result out.old out.new (of_series model.lines_of series.now) }
 {
     put_first_line(alloc, out, series)?;
     put_lines_behind(alloc, out, series)
@@ -203,8 +197,7 @@ fn put_entity_lines(
     number: usize,
     entity: &Entity,
 ) -> Result<(), Memory>
-    ensures { OnOk result (out.new.items ≡ out.old.items
-        ++ model.entity_lines window seen.now.rows.items seen.now.bands.items number entity.now) }
+    ensures { Puts result out.old out.new (views.entity_lines window seen.now number entity.now) }
 {
     let Some(plot) = line_of(&entity.kind) else {
         return Ok(());
@@ -228,8 +221,7 @@ fn put_lines_at(
     entities: &[Entity],
     number: usize,
 ) -> Result<(), Memory>
-    ensures { OnOk result (out.new.items ≡ out.old.items
-        ++ model.lines_at window seen.now.rows.items seen.now.bands.items entities.now number) }
+    ensures { Puts result out.old out.new (views.lines_at window seen.now entities.now number) }
 {
     match entities.get(number) {
         Some(entity) => put_entity_lines(alloc, out, window, seen, number, entity),
@@ -246,8 +238,7 @@ fn put_all_lines(
     seen: &Samples,
     entities: &[Entity],
 ) -> Result<(), Memory>
-    ensures { OnOk result (out.new.items ≡ out.old.items
-        ++ model.all_lines window seen.now.rows.items seen.now.bands.items entities.now) }
+    ensures { Puts result out.old out.new (views.all_lines window seen.now entities.now) }
 {
     for i in 0..entities.len() {
         put_lines_at(alloc, out, window, seen, entities, i)?;
@@ -264,8 +255,7 @@ pub(crate) fn put_sheet(
     sim: &Sim,
     seen: &Samples,
 ) -> Result<(), Memory>
-    ensures { OnOk result (out.new.items ≡ out.old.items
-        ++ model.sheet window sim.now.job.parts.entities seen.now.rows.items seen.now.bands.items) }
+    ensures { Puts result out.old out.new (views.sheet window sim.now seen.now) }
 {
     put_heading(alloc, out)?;
     let entities = sim.spec().verified().object().parts().entities.as_slice();

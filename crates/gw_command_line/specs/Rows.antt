@@ -1,5 +1,5 @@
 -- The words of the commands for many machines.
-use Rattle.std.specs.Prelude.{◌==◌, ℕ, ◌^◌, nat_lt, nat_le, List, [], ◌∷◌, length, Option, Some, None, is_none, option_and_then, Bool, true, not, ◌&&◌, if◌then◌else◌}
+use Rattle.std.specs.Prelude.{◌==◌, ℕ, ◌^◌, nat_lt, nat_le, List, [], ◌∷◌, length, Option, Some, None, is_none, option_and_then, option_map, Bool, true, not, ◌&&◌, if◌then◌else◌}
 use Rattle.std.specs.List.{list_any, position_or_len, before_first, after_first}
 use Rattle.std.specs.Option.{unwrap_or}
 use Rattle.gw_num.specs.Numerals.{number_below}
@@ -30,6 +30,13 @@ runs_view r = record { first = r.first; end = r.end; count = r.count; options = 
 
 abbrev pub lone_view : LoneRun → LoneDemand
 lone_view r = record { run = r.run; count = r.count; options = view r.options }
+
+-- the same, where it has any
+abbrev pub runs_demand : Option Runs → Option RunsDemand
+runs_demand runs = option_map runs_view runs
+
+abbrev pub lone_demand : Option LoneRun → Option LoneDemand
+lone_demand run = option_map lone_view run
 
 -- OPTIONS
 
@@ -84,15 +91,21 @@ abbrev pub runs_counted : ℕ → ℕ → List (List ℕ) → Option ℕ → Opt
 runs_counted first end words None = runs_with first end 0 words
 runs_counted first end words (Some count) = runs_with first end count (behind_first words)
 
+abbrev pub runs_from_to : ℕ → ℕ → List (List ℕ) → Option RunsDemand
+runs_from_to first end words = runs_counted first end words (first_count words)
+
 abbrev pub runs_between : List (List ℕ) → Option ℕ → Option ℕ → Option RunsDemand
 runs_between words None end = None
 runs_between words (Some first) None = None
-runs_between words (Some first) (Some end) = runs_counted first end words (first_count words)
+runs_between words (Some first) (Some end) = runs_from_to first end words
+
+abbrev pub runs_between_words : List ℕ → List ℕ → List (List ℕ) → Option RunsDemand
+runs_between_words first end words = runs_between words (number_below (2 ^ 32) first) (number_below (2 ^ 32) end)
 
 abbrev pub runs_of : List (List ℕ) → Option RunsDemand
 runs_of [] = None
 runs_of (first ∷ []) = None
-runs_of (first ∷ end ∷ words) = runs_between words (number_below (2 ^ 32) first) (number_below (2 ^ 32) end)
+runs_of (first ∷ end ∷ words) = runs_between_words first end words
 
 -- THE OBJECT OF A RUN
 
@@ -107,13 +120,19 @@ abbrev pub lone_counted : ℕ → List (List ℕ) → Option ℕ → Option Lone
 lone_counted run words None = lone_with run 0 words
 lone_counted run words (Some count) = lone_with run count (behind_first words)
 
+abbrev pub lone_of_run : ℕ → List (List ℕ) → Option LoneDemand
+lone_of_run run words = lone_counted run words (first_count words)
+
 abbrev pub lone_numbered : List (List ℕ) → Option ℕ → Option LoneDemand
 lone_numbered words None = None
-lone_numbered words (Some run) = lone_counted run words (first_count words)
+lone_numbered words (Some run) = lone_of_run run words
+
+abbrev pub lone_of_word : List ℕ → List (List ℕ) → Option LoneDemand
+lone_of_word run words = lone_numbered words (number_below (2 ^ 32) run)
 
 abbrev pub lone_run_of : List (List ℕ) → Option LoneDemand
 lone_run_of [] = None
-lone_run_of (run ∷ words) = lone_numbered words (number_below (2 ^ 32) run)
+lone_run_of (run ∷ words) = lone_of_word run words
 
 -- SHARES
 
@@ -136,9 +155,12 @@ shard_with words None shares = None
 shard_with words (Some number) None = None
 shard_with words (Some number) (Some shares) = option_and_then (shard_if_fit number shares) (options_in words)
 
+abbrev pub shard_of_words : List ℕ → List ℕ → List (List ℕ) → Option Shard
+shard_of_words number shares words = shard_with words (number_below (2 ^ 32) number) (number_below (2 ^ 32) shares)
+
 abbrev pub shard_cut : List (List ℕ) → Option (List ℕ × List ℕ) → Option Shard
 shard_cut words None = None
-shard_cut words (Some cut) = shard_with words (number_below (2 ^ 32) cut.0) (number_below (2 ^ 32) cut.1)
+shard_cut words (Some cut) = shard_of_words cut.0 cut.1 words
 
 abbrev pub shard_of : List (List ℕ) → Option Shard
 shard_of [] = None

@@ -43,6 +43,9 @@ pub data Act : Type 0 where
 abbrev pub study_view : Study → Demand
 study_view study = record { runs = study.runs; count = study.count; options = view study.options }
 
+abbrev pub study_demand : Option Study → Option Demand
+study_demand study = option_map study_view study
+
 abbrev pub act_of : Command → Act
 act_of (commands.Ask question) = Ask question
 act_of (commands.Chart chart) = Charts chart.span chart.name.now
@@ -55,6 +58,10 @@ act_of (commands.Runs runs) = Rows (runs_view runs)
 act_of (commands.Summary summing) = Sums summing
 act_of (commands.Object run) = Object (lone_view run)
 act_of (commands.Shard shard) = Shares shard
+
+-- the same, where there is a command
+abbrev pub act_by : Option Command → Option Act
+act_by command = option_map act_of command
 
 -- NUMBERS
 
@@ -141,18 +148,24 @@ trace_of None to = None
 trace_of (Some from) None = None
 trace_of (Some from) (Some to) = Some (Ask (Trace from to))
 
+abbrev pub trace_of_words : List ℕ → List ℕ → Option Act
+trace_of_words from to = trace_of (clock_in from) (clock_in to)
+
 -- `report`, a seed and a count
 abbrev pub report_of : Option ℕ → Option ℕ → Option Act
 report_of None count = None
 report_of (Some seed) None = None
 report_of (Some seed) (Some count) = Some (Ask (Report seed count))
 
+abbrev pub report_of_words : List ℕ → List ℕ → Option Act
+report_of_words seed count = report_of (number_below (2 ^ 32) seed) (number_below (2 ^ 64) count)
+
 abbrev pub command_of_three : List ℕ → List ℕ → List ℕ → Option Act
 command_of_three name first second =
     if bytes_eq name (codes "chart") then chart_of_two first second
     else if bytes_eq name (codes "points") then points_of (span_of first second)
-    else if bytes_eq name (codes "trace") then trace_of (clock_in first) (clock_in second)
-    else if bytes_eq name (codes "report") then report_of (number_below (2 ^ 32) first) (number_below (2 ^ 64) second)
+    else if bytes_eq name (codes "trace") then trace_of_words first second
+    else if bytes_eq name (codes "report") then report_of_words first second
     else None
 
 -- `chart`, two times and a name

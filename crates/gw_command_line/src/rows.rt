@@ -1,11 +1,11 @@
 //! The words of the commands for many machines: `runs`, `summary`, `object` and `shard`.
 
-ghost use Rattle.std.specs.Prelude.{◌≡◌, ◌==◌, ◌^◌, map, option_copied, option_map, IfSome};
+ghost use Rattle.std.specs.Prelude.{◌≡◌, ◌==◌, map, option_copied, option_map, IfSome};
 ghost use Rattle.std.specs.List.{list_any};
 ghost use Rattle.std.specs.String.{string_bytes};
-ghost use Rattle.gw_num.specs.Numerals.{number_below};
 ghost use Rattle.gw_command_line.specs.Options.{view};
 ghost use Rattle.gw_command_line.specs.Rows as model;
+ghost use Rattle.gw_command_line.specs.Rows.{lone_demand, runs_between_words, runs_demand};
 ghost use Rattle.gw_command_line.specs.Asking.{AreRunsFit, IsRunFit, IsShardFit, IsSummingFit};
 
 use crate::options::{Options, options_of};
@@ -73,7 +73,7 @@ fn has_workers(options: &Options<'_>) -> bool
 
 /// The runs from one to another, with options, if there may be such.
 fn runs_if_fit(first: u32, end: u32, count: u64, options: Options<'_>) -> Option<Runs<'_>>
-    ensures runs { option_map model.runs_view result
+    ensures runs { runs_demand result
         ≡ model.runs_if_fit first end count (view options.entry) }
     ensures fit { IfSome result AreRunsFit }
 {
@@ -91,7 +91,7 @@ fn runs_if_fit(first: u32, end: u32, count: u64, options: Options<'_>) -> Option
 
 /// The same with options in words.
 fn runs_with<'a>(first: u32, end: u32, count: u64, words: &'a [String]) -> Option<Runs<'a>>
-    ensures runs { option_map model.runs_view result
+    ensures runs { runs_demand result
         ≡ model.runs_with first end count (map string_bytes words.now) }
     ensures fit { IfSome result AreRunsFit }
 {
@@ -103,8 +103,8 @@ fn runs_with<'a>(first: u32, end: u32, count: u64, words: &'a [String]) -> Optio
 
 /// The same, where a count may stand before the options.
 fn runs_counted<'a>(first: u32, end: u32, words: &'a [String]) -> Option<Runs<'a>>
-    ensures runs { option_map model.runs_view result ≡ model.runs_counted first end
-        (map string_bytes words.now) (model.first_count (map string_bytes words.now)) }
+    ensures runs { runs_demand result
+        ≡ model.runs_from_to first end (map string_bytes words.now) }
     ensures fit { IfSome result AreRunsFit }
 {
     match first_count(words) {
@@ -115,8 +115,8 @@ fn runs_counted<'a>(first: u32, end: u32, words: &'a [String]) -> Option<Runs<'a
 
 /// The runs between two words.
 fn runs_between<'a>(first: &str, end: &str, words: &'a [String]) -> Option<Runs<'a>>
-    ensures runs { option_map model.runs_view result ≡ model.runs_between (map string_bytes words.now)
-        (number_below (2 ^ 32) first.now) (number_below (2 ^ 32) end.now) }
+    ensures runs { runs_demand result
+        ≡ runs_between_words first.now end.now (map string_bytes words.now) }
     ensures fit { IfSome result AreRunsFit }
 {
     match (number_in(first), number_in(end)) {
@@ -127,7 +127,7 @@ fn runs_between<'a>(first: &str, end: &str, words: &'a [String]) -> Option<Runs<
 
 /// The runs whose rows words ask for: the first, the one behind the last, perhaps a count, and options.
 pub(crate) fn runs_of(words: &[String]) -> Option<Runs<'_>>
-    ensures runs { option_map model.runs_view result ≡ model.runs_of (map string_bytes words.now) }
+    ensures runs { runs_demand result ≡ model.runs_of (map string_bytes words.now) }
     ensures fit { IfSome result AreRunsFit }
 {
     match words {
@@ -167,7 +167,7 @@ fn is_of_point(options: &Options<'_>) -> bool
 
 /// A run with options, if there may be such.
 fn lone_if_fit(run: u32, count: u64, options: Options<'_>) -> Option<LoneRun<'_>>
-    ensures run { option_map model.lone_view result ≡ model.lone_if_fit run count (view options.entry) }
+    ensures run { lone_demand result ≡ model.lone_if_fit run count (view options.entry) }
     ensures fit { IfSome result IsRunFit }
 {
     if run < MOST_RUNS && is_of_point(&options) {
@@ -183,7 +183,7 @@ fn lone_if_fit(run: u32, count: u64, options: Options<'_>) -> Option<LoneRun<'_>
 
 /// The same with options in words.
 fn lone_with<'a>(run: u32, count: u64, words: &'a [String]) -> Option<LoneRun<'a>>
-    ensures run { option_map model.lone_view result ≡ model.lone_with run count (map string_bytes words.now) }
+    ensures run { lone_demand result ≡ model.lone_with run count (map string_bytes words.now) }
     ensures fit { IfSome result IsRunFit }
 {
     match options_of(words) {
@@ -194,8 +194,7 @@ fn lone_with<'a>(run: u32, count: u64, words: &'a [String]) -> Option<LoneRun<'a
 
 /// The same, where a count may stand before the options.
 fn lone_counted<'a>(run: u32, words: &'a [String]) -> Option<LoneRun<'a>>
-    ensures run { option_map model.lone_view result ≡ model.lone_counted run
-        (map string_bytes words.now) (model.first_count (map string_bytes words.now)) }
+    ensures run { lone_demand result ≡ model.lone_of_run run (map string_bytes words.now) }
     ensures fit { IfSome result IsRunFit }
 {
     match first_count(words) {
@@ -206,8 +205,8 @@ fn lone_counted<'a>(run: u32, words: &'a [String]) -> Option<LoneRun<'a>>
 
 /// The same, where a word is the number of the run.
 fn lone_numbered<'a>(run: &str, words: &'a [String]) -> Option<LoneRun<'a>>
-    ensures run { option_map model.lone_view result
-        ≡ model.lone_numbered (map string_bytes words.now) (number_below (2 ^ 32) run.now) }
+    ensures run { lone_demand result
+        ≡ model.lone_of_word run.now (map string_bytes words.now) }
     ensures fit { IfSome result IsRunFit }
 {
     match number_in(run) {
@@ -218,7 +217,7 @@ fn lone_numbered<'a>(run: &str, words: &'a [String]) -> Option<LoneRun<'a>>
 
 /// The run whose object words ask for: its number, perhaps a count, and words as `NURSES=2`.
 pub(crate) fn lone_run_of(words: &[String]) -> Option<LoneRun<'_>>
-    ensures run { option_map model.lone_view result ≡ model.lone_run_of (map string_bytes words.now) }
+    ensures run { lone_demand result ≡ model.lone_run_of (map string_bytes words.now) }
     ensures fit { IfSome result IsRunFit }
 {
     match words {
@@ -252,8 +251,8 @@ fn shard_if_fit(number: u32, shares: u32, options: &Options<'_>) -> Option<Shard
 
 /// The same of words.
 fn shard_with(number: &str, shares: &str, words: &[String]) -> Option<Shard>
-    ensures shard { result ≡ model.shard_with (map string_bytes words.now)
-        (number_below (2 ^ 32) number.now) (number_below (2 ^ 32) shares.now) }
+    ensures shard { result
+        ≡ model.shard_of_words number.now shares.now (map string_bytes words.now) }
     ensures fit { IfSome result IsShardFit }
 {
     match (number_in(number), number_in(shares), options_of(words)) {

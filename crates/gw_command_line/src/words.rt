@@ -1,10 +1,11 @@
 //! The words of the program's command line.
 
-ghost use Rattle.std.specs.Prelude.{◌≡◌, ◌^◌, ◌<◌, ◌≤◌, ◌∷◌, map, option_map, IfSome};
+ghost use Rattle.std.specs.Prelude.{◌≡◌, ◌<◌, ◌≤◌, ◌∷◌, map, option_map, IfSome};
 ghost use Rattle.std.specs.String.{string_bytes};
 ghost use Rattle.gw_num.specs.Numerals.{number_below};
 ghost use Rattle.gw_command_line.specs.Asking.{MayBeMade, MayBeCarriedOut};
 ghost use Rattle.gw_command_line.specs.Words as model;
+ghost use Rattle.gw_command_line.specs.Words.{act_by, study_demand};
 
 use crate::options::{Options, options_of};
 use crate::rows::{LoneRun, Runs, Shard, Summing, lone_run_of, runs_of, shard_of, summing_of};
@@ -129,7 +130,7 @@ fn runs_in(word: &str) -> Option<u32>
 
 /// The command that explains a code, if this is one.
 fn explanation_of(code: u16) -> Option<Command<'static>>
-    ensures { option_map model.act_of result ≡ model.explanation_of code }
+    ensures { act_by result ≡ model.explanation_of code }
 {
     match advice_on(code) {
         Some(_) => Some(Command::Code(code)),
@@ -139,7 +140,7 @@ fn explanation_of(code: u16) -> Option<Command<'static>>
 
 /// The command that explains the code that a word says.
 fn explanation_in(word: &str) -> Option<Command<'static>>
-    ensures { option_map model.act_of result ≡ model.explanation_in (number_below 1000 word.now) }
+    ensures { act_by result ≡ model.explanation_in (number_below 1000 word.now) }
 {
     match number_in(word) {
         Some(code) if code < 1000 => explanation_of(code as u16),
@@ -149,7 +150,7 @@ fn explanation_in(word: &str) -> Option<Command<'static>>
 
 /// The command that one word names.
 fn command_named(name: &str) -> Option<Command<'static>>
-    ensures { option_map model.act_of result ≡ model.command_named name.now }
+    ensures { act_by result ≡ model.command_named name.now }
 {
     match name {
         "explain" => Some(Command::Ask(Question::Explain)),
@@ -169,7 +170,7 @@ fn command_named(name: &str) -> Option<Command<'static>>
 
 /// The command that two words name: `explain` of a code.
 fn command_of_two(name: &str, first: &str) -> Option<Command<'static>>
-    ensures { option_map model.act_of result ≡ model.command_of_two name.now first.now }
+    ensures { act_by result ≡ model.command_of_two name.now first.now }
 {
     match name {
         "explain" => explanation_in(first),
@@ -199,7 +200,7 @@ fn is_name(word: &str) -> bool
 
 /// The command `chart` of a part of a run, under a name.
 fn chart_named(span: Span, name: &str) -> Option<Command<'_>>
-    ensures command { option_map model.act_of result ≡ model.chart_named span name.now }
+    ensures command { act_by result ≡ model.chart_named span name.now }
     ensures fit { IfSome result MayBeCarriedOut }
 {
     if is_name(name) {
@@ -211,7 +212,7 @@ fn chart_named(span: Span, name: &str) -> Option<Command<'_>>
 
 /// The command `points`, where both words are times.
 fn points_of(from: &str, to: &str) -> Option<Command<'static>>
-    ensures command { option_map model.act_of result
+    ensures command { act_by result
         ≡ model.points_of (model.span_of from.now to.now) }
     ensures fit { IfSome result MayBeCarriedOut }
 {
@@ -221,7 +222,7 @@ fn points_of(from: &str, to: &str) -> Option<Command<'static>>
 
 /// The command `chart`, where both words are times, under a name.
 fn chart_of<'a>(from: &str, to: &str, name: &'a str) -> Option<Command<'a>>
-    ensures command { option_map model.act_of result
+    ensures command { act_by result
         ≡ model.chart_of (model.span_of from.now to.now) name.now }
     ensures fit { IfSome result MayBeCarriedOut }
 {
@@ -233,7 +234,7 @@ fn chart_of<'a>(from: &str, to: &str, name: &'a str) -> Option<Command<'a>>
 
 /// The command `chart` of a whole run or from a time to another: two words are `--name` and a name, or times.
 fn chart_of_two<'a>(first: &str, second: &'a str) -> Option<Command<'a>>
-    ensures command { option_map model.act_of result ≡ model.chart_of_two first.now second.now }
+    ensures command { act_by result ≡ model.chart_of_two first.now second.now }
     ensures fit { IfSome result MayBeCarriedOut }
 {
     if first == "--name" {
@@ -250,7 +251,7 @@ fn command_of_five<'a>(
     key: &str,
     title: &'a str,
 ) -> Option<Command<'a>>
-    ensures command { option_map model.act_of result
+    ensures command { act_by result
         ≡ model.command_of_five name.now first.now second.now key.now title.now }
     ensures fit { IfSome result MayBeCarriedOut }
 {
@@ -263,8 +264,8 @@ fn command_of_five<'a>(
 
 /// The command `trace`, where both words are times.
 fn trace_of(from: &str, to: &str) -> Option<Command<'static>>
-    ensures command { option_map model.act_of result
-        ≡ model.trace_of (model.clock_in from.now) (model.clock_in to.now) }
+    ensures command { act_by result
+        ≡ model.trace_of_words from.now to.now }
     ensures fit { IfSome result MayBeCarriedOut }
 {
     let from = clock_in(from)?;
@@ -274,8 +275,8 @@ fn trace_of(from: &str, to: &str) -> Option<Command<'static>>
 
 /// The command `report`, where the words are a seed and a count.
 fn report_of(seed: &str, count: &str) -> Option<Command<'static>>
-    ensures command { option_map model.act_of result
-        ≡ model.report_of (number_below (2 ^ 32) seed.now) (number_below (2 ^ 64) count.now) }
+    ensures command { act_by result
+        ≡ model.report_of_words seed.now count.now }
     ensures fit { IfSome result MayBeCarriedOut }
 {
     let seed = number_in(seed)?;
@@ -285,7 +286,7 @@ fn report_of(seed: &str, count: &str) -> Option<Command<'static>>
 
 /// The command that three words name: `chart`, `points`, `trace` or `report`.
 fn command_of_three<'a>(name: &str, first: &str, second: &'a str) -> Option<Command<'a>>
-    ensures command { option_map model.act_of result
+    ensures command { act_by result
         ≡ model.command_of_three name.now first.now second.now }
     ensures fit { IfSome result MayBeCarriedOut }
 {
@@ -315,7 +316,7 @@ fn is_fit(runs: u32, options: &Options<'_>) -> bool
 /// A study of so many runs, if they may be made as options say.
 fn study_if_fit(runs: u32, count: u64, options: Options<'_>) -> Option<Study<'_>>
     requires { (0 < runs) × (runs ≤ 512) }
-    ensures study { option_map model.study_view result
+    ensures study { study_demand result
         ≡ model.study_if_fit runs count (model.view options.entry) }
     ensures fit { IfSome result MayBeMade }
 {
@@ -333,7 +334,7 @@ fn study_if_fit(runs: u32, count: u64, options: Options<'_>) -> Option<Study<'_>
 /// A study of so many runs, with the options that words name.
 fn study_with<'a>(runs: u32, count: u64, words: &'a [String]) -> Option<Study<'a>>
     requires { (0 < runs) × (runs ≤ 512) }
-    ensures study { option_map model.study_view result
+    ensures study { study_demand result
         ≡ model.study_with runs count (map string_bytes words.now) }
     ensures fit { IfSome result MayBeMade }
 {
@@ -366,7 +367,7 @@ pub(crate) fn behind_first(words: &[String]) -> &[String]
 /// A study of so many runs: its count, if the first word is one, and its options.
 fn study_of_runs(runs: u32, words: &[String]) -> Option<Study<'_>>
     requires { (0 < runs) × (runs ≤ 512) }
-    ensures study { option_map model.study_view result
+    ensures study { study_demand result
         ≡ model.study_of_runs runs (map string_bytes words.now) }
     ensures fit { IfSome result MayBeMade }
 {
@@ -378,7 +379,7 @@ fn study_of_runs(runs: u32, words: &[String]) -> Option<Study<'_>>
 
 /// The study that words ask for: how many runs, perhaps a count, and options.
 fn study_of(words: &[String]) -> Option<Study<'_>>
-    ensures study { option_map model.study_view result ≡ model.study_of (map string_bytes words.now) }
+    ensures study { study_demand result ≡ model.study_of (map string_bytes words.now) }
     ensures fit { IfSome result MayBeMade }
 {
     match words {
@@ -392,7 +393,7 @@ fn study_of(words: &[String]) -> Option<Study<'_>>
 
 /// The command `study`.
 fn studies(words: &[String]) -> Option<Command<'_>>
-    ensures command { option_map model.act_of result
+    ensures command { act_by result
         ≡ model.studies (model.study_of (map string_bytes words.now)) }
     ensures fit { IfSome result MayBeCarriedOut }
 {
@@ -404,7 +405,7 @@ fn studies(words: &[String]) -> Option<Command<'_>>
 
 /// The command `compare`, which has no words as `NURSES=2,3`.
 fn compares(words: &[String]) -> Option<Command<'_>>
-    ensures command { option_map model.act_of result
+    ensures command { act_by result
         ≡ model.compares (model.study_of (map string_bytes words.now)) }
     ensures fit { IfSome result MayBeCarriedOut }
 {
@@ -422,7 +423,7 @@ fn compares(words: &[String]) -> Option<Command<'_>>
 
 /// The command `runs`.
 fn rows(words: &[String]) -> Option<Command<'_>>
-    ensures command { option_map model.act_of result
+    ensures command { act_by result
         ≡ option_map model.Rows (model.runs_of (map string_bytes words.now)) }
     ensures fit { IfSome result MayBeCarriedOut }
 {
@@ -434,7 +435,7 @@ fn rows(words: &[String]) -> Option<Command<'_>>
 
 /// The command `summary`.
 fn sums(words: &[String]) -> Option<Command<'_>>
-    ensures command { option_map model.act_of result
+    ensures command { act_by result
         ≡ option_map model.Sums (model.summing_of (map string_bytes words.now)) }
     ensures fit { IfSome result MayBeCarriedOut }
 {
@@ -446,7 +447,7 @@ fn sums(words: &[String]) -> Option<Command<'_>>
 
 /// The command `object`.
 fn object(words: &[String]) -> Option<Command<'_>>
-    ensures command { option_map model.act_of result
+    ensures command { act_by result
         ≡ option_map model.Object (model.lone_run_of (map string_bytes words.now)) }
     ensures fit { IfSome result MayBeCarriedOut }
 {
@@ -458,7 +459,7 @@ fn object(words: &[String]) -> Option<Command<'_>>
 
 /// The command `shard`.
 fn shares(words: &[String]) -> Option<Command<'_>>
-    ensures command { option_map model.act_of result
+    ensures command { act_by result
         ≡ option_map model.Shares (model.shard_of (map string_bytes words.now)) }
     ensures fit { IfSome result MayBeCarriedOut }
 {
@@ -471,7 +472,7 @@ fn shares(words: &[String]) -> Option<Command<'_>>
 /// The command that more than three words name.
 #[tactic(auto, using(crate::proofs::Fewness::none_of_more))]
 fn command_of_more(words: &[String]) -> Option<Command<'_>>
-    ensures command { option_map model.act_of result
+    ensures command { act_by result
         ≡ model.command_of_more (map string_bytes words.now) }
     ensures fit { IfSome result MayBeCarriedOut }
 {
@@ -483,7 +484,7 @@ fn command_of_more(words: &[String]) -> Option<Command<'_>>
 
 /// The command that a few words name.
 fn command_of_few(words: &[String]) -> Option<Command<'_>>
-    ensures command { option_map model.act_of result
+    ensures command { act_by result
         ≡ model.command_of_few (map string_bytes words.now) }
     ensures fit { IfSome result MayBeCarriedOut }
 {
@@ -499,7 +500,7 @@ fn command_of_few(words: &[String]) -> Option<Command<'_>>
 #[tactic(auto, using(crate::proofs::Fewness::by_few))]
 fn command_with<'a>(name: &str, behind: &'a [String], words: &'a [String]) -> Option<Command<'a>>
     requires { map string_bytes words.now ≡ name.now ∷ map string_bytes behind.now }
-    ensures command { option_map model.act_of result ≡ model.command_in (map string_bytes words.now) }
+    ensures command { act_by result ≡ model.command_in (map string_bytes words.now) }
     ensures fit { IfSome result MayBeCarriedOut }
 {
     if name == "study" {
@@ -526,7 +527,7 @@ fn command_with<'a>(name: &str, behind: &'a [String], words: &'a [String]) -> Op
 /// decimal digits alone. As many studies of so many runs may be asked for as 512 runs have; there may be 1 to 16 workers; CSV and a
 /// picture aren't asked for at once.
 pub fn command_of(words: &[String]) -> Option<Command<'_>>
-    ensures command { option_map model.act_of result ≡ model.command_in (map string_bytes words.now) }
+    ensures command { act_by result ≡ model.command_in (map string_bytes words.now) }
     ensures fit { IfSome result MayBeCarriedOut }
 {
     match words {

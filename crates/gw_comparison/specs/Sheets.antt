@@ -40,11 +40,19 @@ account_fields point figure count None = point ∷ figure ∷ codes "0" ∷ [] �
 account_fields point figure count (Some s) =
     point ∷ figure ∷ decimal count ∷ millionths s.mean ∷ half_width_field s.half_width ∷ millionths s.least ∷ millionths s.greatest ∷ []
 
+-- the record of a figure whose values this summary is of
+abbrev pub summary_record : List ℕ → List ℕ → ℕ → Summary → List ℕ
+summary_record point figure count summary = record_text (account_fields point figure count (Some summary))
+
+-- the record of a figure, by its account
+abbrev pub account_record : List ℕ → List ℕ → Account → List ℕ
+account_record point figure account = record_text (account_fields point figure account.count account.summary)
+
 -- the record of a figure, by what its values say
 pub record AddsRecord (point figure : List ℕ) (values : List ℤ) (old new : List ℕ) : Type 0 where
   pub account : Account
   pub said : IsAccount values account
-  pub row : new ≡ old ++ record_text (account_fields point figure account.count account.summary)
+  pub row : new ≡ old ++ account_record point figure account
 
 -- POINTS
 
@@ -63,26 +71,38 @@ AddsColumns all point old new = AddsEach (AddsColumn all point.name.items) point
 abbrev pub difference_name : List ℕ → List ℕ → List ℕ
 difference_name first second = second ++ codes " LESS " ++ first
 
+-- the record of the differences of two columns
+abbrev pub AddsPairRecord : List ℕ → Column → Column → List ℕ → List ℕ → Type 0
+AddsPairRecord name first second old new =
+    AddsRecord name first.name.items (differences first.values.items second.values.items) old new
+
 -- the record of the differences of a figure, if the other point has it
 abbrev pub AddsDifferenceRecord : List ℕ → Column → Option Column → List ℕ → List ℕ → Type 0
 AddsDifferenceRecord name first None old new = new ≡ old
-AddsDifferenceRecord name first (Some second) old new =
-    AddsRecord name first.name.items (differences first.values.items second.values.items) old new
+AddsDifferenceRecord name first (Some second) old new = AddsPairRecord name first second old new
 
 -- the same, where it is told
 abbrev pub AddsDifferenceIfTold : Bool → List ℕ → List Column → Column → List ℕ → List ℕ → Type 0
 AddsDifferenceIfTold all name others first old new =
     MatchBool (is_told all first) (AddsDifferenceRecord name first (column_of first.name.items others) old new) (new ≡ old)
 
+-- the records of the differences of columns, each to the one of its name, where it is told
+abbrev pub AddsPairRecords : Bool → List ℕ → List Column → List Column → List ℕ → List ℕ → Type 0
+AddsPairRecords all name others columns old new = AddsEach (AddsDifferenceIfTold all name others) columns old new
+
 -- the records of the differences of a point to the first
 abbrev pub AddsDifferenceRecords : Bool → Point → Point → List ℕ → List ℕ → Type 0
 AddsDifferenceRecords all first second old new =
-    AddsEach (AddsDifferenceIfTold all (difference_name first.name.items second.name.items) second.columns.items) first.columns.items old new
+    AddsPairRecords all (difference_name first.name.items second.name.items) second.columns.items first.columns.items old new
+
+-- those of other points to the first
+abbrev pub AddsOtherRecords : Bool → Point → List Point → List ℕ → List ℕ → Type 0
+AddsOtherRecords all first others old new = AddsEach (AddsDifferenceRecords all first) others old new
 
 -- those of all points behind the first
 abbrev pub AddsAllDifferenceRecords : Bool → List Point → List ℕ → List ℕ → Type 0
 AddsAllDifferenceRecords all [] old new = new ≡ old
-AddsAllDifferenceRecords all (first ∷ rest) old new = AddsEach (AddsDifferenceRecords all first) rest old new
+AddsAllDifferenceRecords all (first ∷ rest) old new = AddsOtherRecords all first rest old new
 
 -- THE SHEET
 

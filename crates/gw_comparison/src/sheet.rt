@@ -1,10 +1,10 @@
 //! Points as CSV.
 
-ghost use Rattle.std.specs.Prelude.{◌≡◌, ◌++◌, Some, map, IfOk, OnOk};
+ghost use Rattle.std.specs.Prelude.{◌≡◌, ◌++◌, map, IfOk, OnOk};
 ghost use Rattle.std.specs.Fmt.{decimal};
 ghost use Rattle.gw_comparison.specs.Amounts.{millionths};
 ghost use Rattle.gw_comparison.specs.Sheets as model;
-ghost use Rattle.gw_comparison.specs.Sheets.{AddsEach, account_fields, head_fields, record_text};
+ghost use Rattle.gw_comparison.specs.Sheets.{AddsEach, AddsPairRecords, account_record, head_fields, record_text, summary_record};
 
 use crate::accounts::{Account, account_in, column_of, is_told};
 use crate::amounts::put_millionths;
@@ -101,8 +101,8 @@ fn put_summary(
     count: usize,
     summary: &Summary,
 ) -> Result<(), Memory>
-    ensures { OnOk result (out.new.items ≡ out.old.items
-        ++ record_text (account_fields point.now figure.now count (Some summary.now))) }
+    ensures { OnOk result
+        (out.new.items ≡ out.old.items ++ summary_record point.now figure.now count summary.now) }
 {
     let runs = count_field(alloc, count)?;
     let mean = field_of(alloc, &summary.mean)?;
@@ -124,8 +124,8 @@ fn put_account(
     figure: &[u8],
     account: &Account,
 ) -> Result<(), Memory>
-    ensures { OnOk result (out.new.items ≡ out.old.items
-        ++ record_text (account_fields point.now figure.now account.now.count account.now.summary)) }
+    ensures { OnOk result
+        (out.new.items ≡ out.old.items ++ account_record point.now figure.now account.now) }
 {
     match &account.summary {
         Some(summary) => put_summary(alloc, out, point, figure, account.count, summary),
@@ -205,8 +205,8 @@ fn put_difference_of(
     first: &Column,
     second: &Column,
 ) -> Result<(), Memory>
-    ensures { OnOk result (model.AddsDifferenceRecord name.now first.now (Some second.now)
-        out.old.items out.new.items) }
+    ensures { OnOk result
+        (model.AddsPairRecord name.now first.now second.now out.old.items out.new.items) }
 {
     let account = account_between(alloc, first, second)?;
     put_account(alloc, out, name, &first.name, &account)
@@ -242,8 +242,8 @@ fn put_each_difference(
     others: &[Column],
     all: bool,
 ) -> Result<(), Memory>
-    ensures { OnOk result (AddsEach (model.AddsDifferenceIfTold all name.now others.now) columns.now
-        out.old.items out.new.items) }
+    ensures { OnOk result
+        (AddsPairRecords all name.now others.now columns.now out.old.items out.new.items) }
 {
     for i in 0..columns.len() {
         put_difference(alloc, out, name, &columns[i], others, all)?;
@@ -274,8 +274,8 @@ fn put_others(
     others: &[Point],
     all: bool,
 ) -> Result<(), Memory>
-    ensures { OnOk result (AddsEach (model.AddsDifferenceRecords all first.now) others.now
-        out.old.items out.new.items) }
+    ensures { OnOk result
+        (model.AddsOtherRecords all first.now others.now out.old.items out.new.items) }
 {
     for i in 0..others.len() {
         put_differences(alloc, out, first, &others[i], all)?;

@@ -19,6 +19,7 @@ use Rattle.gw_operands.specs.Meaning.{Taken, Derives}
 use Rattle.gw_operands.specs.Outcome.{outcome_of}
 use Rattle.gw_rules.specs.PlusLaws.{HasSet}
 use Rattle.gw_text_expressions.specs.declared.model.Expression.{Expression}
+use Rattle.gw_compile.specs.declared.faults.CompileFault.{CompileFault}
 use Rattle.gw_compile.specs.declared.numbering.Callee.{Callee}
 use Rattle.gw_compile.specs.declared.numbering.Equ.TheVariants as equs
 use Rattle.gw_compile.specs.Numbers.{Numbers}
@@ -27,6 +28,7 @@ use Rattle.gw_compile.specs.Code.{expression_code, procedure_code}
 use Rattle.gw_text_plus.specs.declared.model.Procedure.{Procedure as TextProcedure}
 use Rattle.gw_compile.specs.Statements.{Standing, Piece, body_of, body_code}
 use Rattle.gw_compile.specs.Needs.{needs_in}
+use Rattle.gw_compile.specs.Unknown.{Judges, first_blame}
 
 -- THE OBJECT
 
@@ -125,3 +127,11 @@ ExceedsCodeLimits code = (most_instructions < length code) ⊎ (most_backs < bac
 -- a body has more locals, instructions or BACKs than a procedure of an object may have
 abbrev pub ExceedsLimits : Piece → Type 0
 ExceedsLimits body = (most_locals < length body.scope) ⊎ ExceedsCodeLimits (body_code body)
+
+-- an answer goes by what becomes a procedure: by the first to blame in it, and that of a limit by what exceeds one; by an expression
+abbrev pub JudgesProcedure : {A : Type 0} → Numbers → Expression → Result A CompileFault → Type 0
+JudgesProcedure n e answer = Judges (first_blame n [] e) (most_instructions < length (procedure_code n e)) answer
+
+-- and by a body
+abbrev pub JudgesBody : {A : Type 0} → Piece → Result A CompileFault → Type 0
+JudgesBody body answer = Judges body.blame (ExceedsLimits body) answer

@@ -6,4 +6,6 @@ pub mod Code
 pub mod Unknown
 pub mod Needs
 pub mod Statements
+pub mod Emission
+pub mod Writing
 pub mod Keeps

@@ -1,5 +1,5 @@
 -- The parameters that a procedure needs: those for which its code asks, by their numbers, ascending.
-use Rattle.std.specs.Prelude.{◌≡◌, ℕ, List, [], ◌∷◌, Vec, if◌then◌else◌, ◌==◌, nat_lt, slice_get}
+use Rattle.std.specs.Prelude.{◌≡◌, ℕ, List, [], ◌∷◌, Result, OnOk, Vec, if◌then◌else◌, ◌==◌, nat_lt, slice_get}
 use Rattle.std.specs.Global.{Global}
 use Rattle.gw_blocks.specs.declared.parts.Operand.{Operand}
 use Rattle.gw_blocks.specs.declared.parts.Operand.TheVariants as operands
@@ -51,3 +51,7 @@ needs_in n procedures code = needs_with n procedures code []
 -- these are the parameters for which code asks
 abbrev pub AreNeeds : Numbers → List Procedure → List Instruction → Vec ℕ Global → Type 0
 AreNeeds n procedures code needs = needs.items ≡ needs_in n procedures code
+
+-- unless there is no memory for them, these numbers come among ascending ones
+abbrev pub AddsNeeds : {A E : Type 0} → Result A E → Vec ℕ Global → Vec ℕ Global → List ℕ → Type 0
+AddsNeeds result old new more = OnOk result (new.items ≡ with_numbers more old.items)

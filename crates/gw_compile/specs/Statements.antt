@@ -205,6 +205,10 @@ sequence n scope place reached (s ∷ ss) =
 abbrev pub body_of : Numbers → TextProcedure → Piece
 body_of n procedure = piece n (map string_bytes procedure.arguments.items) 0 procedure.statement
 
+-- how many locals a PROCEDURE has, with its arguments
+abbrev pub local_count : Numbers → TextProcedure → ℕ
+local_count n procedure = length (body_of n procedure).scope
+
 -- the end of a PROCEDURE: its value is 0
 abbrev pub end_code : List Instruction
 end_code = Push (pos 0) ∷ Return ∷ []
@@ -212,3 +216,7 @@ end_code = Push (pos 0) ∷ Return ∷ []
 -- the code of a PROCEDURE
 abbrev pub body_code : Piece → List Instruction
 body_code body = body.code ++ when body.goes_on end_code
+
+-- the code that a PROCEDURE becomes
+abbrev pub code_of : Numbers → TextProcedure → List Instruction
+code_of n procedure = body_code (body_of n procedure)

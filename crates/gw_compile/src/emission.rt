@@ -1,10 +1,8 @@
 //! From expressions to instructions.
 
-ghost use Rattle.std.specs.Prelude.{◌≡◌, ◌≤◌, ◌++◌, ◌∷◌, [], None, OnOk, length, option_to_list, string_bytes};
-ghost use Rattle.std.specs.List.{flat_map};
+ghost use Rattle.std.specs.Prelude.{◌≡◌, ◌≤◌, ◌∷◌, [], None, length, option_to_list, string_bytes};
 ghost use Rattle.gw_compile.specs.Code as model;
-ghost use Rattle.gw_compile.specs.Code.{expression_code};
-ghost use Rattle.gw_compile.specs.Scope.{scope_of};
+ghost use Rattle.gw_compile.specs.Emission.{Puts, Emits, EmitsAll};
 ghost use Rattle.gw_compile.specs.Unknown.{Judges, JudgesExpression, JudgesExpressions};
 ghost use Rattle.gw_compile.specs.Unknown.{if_unknown, if_misfit};
 
@@ -20,7 +18,7 @@ pub(crate) fn put<'a>(
     code: &mut Vec<Instruction>,
     instruction: Instruction,
 ) -> Result<(), CompileFault<'a>>
-    ensures code { OnOk result (code.new.items ≡ code.old.items ++ instruction ∷ []) }
+    ensures code { Puts result code.old code.new (instruction ∷ []) }
     ensures fault { Judges None ⊥ result }
 {
     match code.push(instruction) {
@@ -46,7 +44,7 @@ fn put_known<'a>(
     known: Option<Instruction>,
     operand: &'a Expression,
 ) -> Result<(), CompileFault<'a>>
-    ensures code { OnOk result (code.new.items ≡ code.old.items ++ option_to_list known) }
+    ensures code { Puts result code.old code.new (option_to_list known) }
     ensures fault { Judges (if_unknown known operand.now) ⊥ result }
 {
     match known {
@@ -62,7 +60,7 @@ fn put_call<'a>(
     given: usize,
     call: &'a Expression,
 ) -> Result<(), CompileFault<'a>>
-    ensures code { OnOk result (code.new.items ≡ code.old.items ++ model.call_code callee) }
+    ensures code { Puts result code.old code.new (model.call_code callee) }
     ensures fault { Judges (if_misfit callee given call.now) ⊥ result }
 {
     match callee {
@@ -83,8 +81,7 @@ fn emit_all<'a, N: Numbering>(
     expressions: &'a [Expression],
 ) -> Result<(), CompileFault<'a>>
     requires { length locals.now ≤ 32 }
-    ensures code { OnOk result (code.new.items ≡ code.old.items
-        ++ flat_map (expression_code (N.numbers names.now) (scope_of locals.now)) expressions.now) }
+    ensures code { EmitsAll result code.old code.new (N.numbers names.now) locals.now expressions.now }
     ensures fault { JudgesExpressions (N.numbers names.now) locals.now expressions.now result }
 {
     for expression in expressions {
@@ -103,8 +100,7 @@ pub(crate) fn emit<'a, N: Numbering>(
     expression: &'a Expression,
 ) -> Result<(), CompileFault<'a>>
     requires { length locals.now ≤ 32 }
-    ensures code { OnOk result (code.new.items ≡ code.old.items
-        ++ expression_code (N.numbers names.now) (scope_of locals.now) expression.now) }
+    ensures code { Emits result code.old code.new (N.numbers names.now) locals.now expression.now }
     ensures fault { JudgesExpression (N.numbers names.now) locals.now expression.now result }
 {
     match expression {

@@ -4,6 +4,7 @@ ghost use Rattle.std.specs.Prelude.{◌≡◌, OnOk, IfOk, slice_get};
 ghost use Rattle.std.specs.Option.{option_copied};
 ghost use Rattle.gw_operands.specs.Code as flow;
 ghost use Rattle.gw_compile.specs.Needs as model;
+ghost use Rattle.gw_compile.specs.Needs.{AddsNeeds, asks};
 
 use crate::numbering::Numbering;
 use gw_blocks::Operand;
@@ -51,7 +52,7 @@ fn put_number(needs: &mut Vec<u8>, number: u8) -> Result<(), AllocError>
 
 /// Puts numbers among ascending ones.
 fn put_numbers(needs: &mut Vec<u8>, numbers: &[u8]) -> Result<(), AllocError>
-    ensures { OnOk result (needs.new.items ≡ model.with_numbers numbers.now needs.old.items) }
+    ensures { AddsNeeds result needs.old needs.new numbers.now }
 {
     for i in 0..numbers.len() {
         put_number(needs, numbers[i])?;
@@ -65,8 +66,7 @@ fn put_asked_by(
     procedures: &[Procedure],
     source: Operand,
 ) -> Result<(), AllocError>
-    ensures { OnOk result (needs.new.items
-        ≡ model.with_numbers (model.asked_by procedures.now source) needs.old.items) }
+    ensures { AddsNeeds result needs.old needs.new (model.asked_by procedures.now source) }
 {
     match source {
         Operand::Parameter(number) => put_number(needs, number),
@@ -82,8 +82,8 @@ fn put_asked<N: Numbering>(
     procedures: &[Procedure],
     instruction: Instruction,
 ) -> Result<(), AllocError>
-    ensures { OnOk result (needs.new.items
-        ≡ model.with_numbers (model.asks (N.numbers names.now) procedures.now instruction) needs.old.items) }
+    ensures { AddsNeeds result needs.old needs.new
+        (asks (N.numbers names.now) procedures.now instruction) }
 {
     match instruction {
         Instruction::Value(sna) => put_asked_by(needs, procedures, source_in(names, sna)),

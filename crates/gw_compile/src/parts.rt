@@ -1,12 +1,14 @@
 //! The parts of statements, as instructions.
 
-ghost use Rattle.std.specs.Prelude.{◌≡◌, ◌≤◌, ◌<◌, ◌+◌, ◌++◌, ◌∷◌, [], None, true, if◌then◌else◌};
-ghost use Rattle.std.specs.Prelude.{length, map, slice_set, string_bytes, OnOk, IfOk};
+ghost use Rattle.std.specs.Prelude.{◌≡◌, ◌≤◌, ◌<◌, ◌+◌, ◌++◌, ◌∷◌, [], None, true};
+ghost use Rattle.std.specs.Prelude.{length, string_bytes, OnOk, IfOk};
 ghost use Rattle.gw_code.specs.Limits.{most_locals};
-ghost use Rattle.gw_compile.specs.Scope.{scope_of};
+ghost use Rattle.gw_compile.specs.Emission.{Puts, EmitsTest, IsBehind};
+ghost use Rattle.gw_compile.specs.Scope.{scope_of, scope_with};
 ghost use Rattle.gw_compile.specs.Statements as model;
-ghost use Rattle.gw_compile.specs.Statements.{IsWritten, when};
-ghost use Rattle.gw_compile.specs.Code.{expression_code};
+ghost use Rattle.gw_compile.specs.Statements.{when};
+ghost use Rattle.gw_compile.specs.Writing.{Assigns, EmitsValue, Returns, jump_back, with_jump, with_leap};
+ghost use Rattle.gw_compile.specs.Writing.{JudgesAssignment, JudgesReturn};
 ghost use Rattle.gw_compile.specs.Unknown.{Judges, JudgesExpression};
 
 use crate::emission::{emit, put};
@@ -28,7 +30,7 @@ pub(crate) fn next_place(code: &[Instruction]) -> u16
 
 /// One more jump, whose target isn't known yet; where it stands.
 fn put_jump<'a>(code: &mut Vec<Instruction>, jump: Instruction) -> Result<usize, CompileFault<'a>>
-    ensures code { OnOk result (code.new.items ≡ code.old.items ++ jump ∷ []) }
+    ensures code { Puts result code.old code.new (jump ∷ []) }
     ensures place { IfOk result (λ place. place ≡ length code.old.items) }
     ensures fault { Judges None ⊥ result }
 {
@@ -42,8 +44,7 @@ pub(crate) fn put_leap<'a>(
     code: &mut Vec<Instruction>,
     skips: bool,
 ) -> Result<usize, CompileFault<'a>>
-    ensures code { OnOk result (code.new.items
-        ≡ code.old.items ++ when skips (Instruction.Jump 0 ∷ [])) }
+    ensures code { Puts result code.old code.new (when skips (Instruction.Jump 0 ∷ [])) }
     ensures place { IfOk result (λ place. place ≡ length code.old.items) }
     ensures fault { Judges None ⊥ result }
 {
@@ -57,8 +58,7 @@ pub(crate) fn put_leap<'a>(
 /// Lets the test at a place lead to what comes next where it is 0.
 pub(crate) fn lead_test_on(code: &mut Vec<Instruction>, at: usize)
     requires { at < length code.old.items }
-    ensures { code.new.items
-        ≡ slice_set code.old.items at (Instruction.JumpIfZero (model.target (length code.old.items))) }
+    ensures { code.new.items ≡ with_jump Instruction.JumpIfZero at code.old.items }
 {
     let target = next_place(code);
     code[at] = Instruction::JumpIfZero(target);
@@ -67,9 +67,7 @@ pub(crate) fn lead_test_on(code: &mut Vec<Instruction>, at: usize)
 /// Lets the jump at a place lead to what comes next, where there is one.
 pub(crate) fn lead_leap_on(code: &mut Vec<Instruction>, at: usize, skips: bool)
     requires { skips ≡ true → at < length code.old.items }
-    ensures { code.new.items ≡ (if skips
-        then slice_set code.old.items at (Instruction.Jump (model.target (length code.old.items)))
-        else code.old.items) }
+    ensures { code.new.items ≡ with_leap skips at code.old.items }
 {
     if skips {
         let target = next_place(code);
@@ -83,8 +81,7 @@ pub(crate) fn put_turn<'a>(
     goes_on: bool,
     target: u16,
 ) -> Result<(), CompileFault<'a>>
-    ensures code { OnOk result (code.new.items ≡ code.old.items
-        ++ when goes_on (Instruction.Back (record { target = target; count = model.turns }) ∷ [])) }
+    ensures code { Puts result code.old code.new (jump_back goes_on target) }
     ensures fault { Judges None ⊥ result }
 {
     if goes_on {
@@ -118,11 +115,9 @@ pub(crate) fn declare_all<'a>(
     names: &'a [String],
 ) -> Result<(), CompileFault<'a>>
     requires { length locals.old.items ≤ 32 }
-    ensures names { OnOk result (scope_of locals.new.items
-        ≡ scope_of locals.old.items ++ map string_bytes names.now) }
+    ensures names { OnOk result (scope_of locals.new.items ≡ scope_with locals.old.items names.now) }
     ensures room { OnOk result (length locals.new.items ≤ 32) }
-    ensures fault { Judges None
-        (most_locals < length (scope_of locals.old.items ++ map string_bytes names.now)) result }
+    ensures fault { Judges None (most_locals < length (scope_with locals.old.items names.now)) result }
 {
     for name in names {
         declare(locals, name)?;
@@ -132,7 +127,7 @@ pub(crate) fn declare_all<'a>(
 
 /// The value on top of the stack goes into a local.
 fn put_set<'a>(code: &mut Vec<Instruction>, local: Option<u8>) -> Result<(), CompileFault<'a>>
-    ensures code { OnOk result (code.new.items ≡ code.old.items ++ model.set_code local) }
+    ensures code { Puts result code.old code.new (model.set_code local) }
     ensures fault { Judges None ⊥ result }
 {
     match local {
@@ -160,11 +155,10 @@ pub(crate) fn assign<'a, N: Numbering>(
     value: &'a Expression,
 ) -> Result<bool, CompileFault<'a>>
     requires { length locals.now ≤ 32 }
-    ensures written { IfOk result (IsWritten (model.assign_piece (N.numbers names.now)
-        (scope_of locals.now) (length code.old.items) (string_bytes name.now) value.now)
-        code.old.items code.new.items (scope_of locals.now)) }
-    ensures fault { Judges (model.assign_piece (N.numbers names.now)
-        (scope_of locals.now) (length code.old.items) (string_bytes name.now) value.now).blame ⊥ result }
+    ensures written { Assigns result code.old code.new (N.numbers names.now) locals.now
+        name.now value.now }
+    ensures fault { JudgesAssignment result code.old (N.numbers names.now) locals.now
+        name.now value.now }
 {
     let local = local_of(locals, name.as_str());
     check_target(local, name)?;
@@ -181,11 +175,8 @@ fn emit_returned<'a, N: Numbering>(
     value: &'a Option<Expression>,
 ) -> Result<(), CompileFault<'a>>
     requires { length locals.now ≤ 32 }
-    ensures code { OnOk result (code.new.items ++ Instruction.Return ∷ []
-        ≡ code.old.items ++ (model.return_piece (N.numbers names.now)
-        (scope_of locals.now) (length code.old.items) value.now).code) }
-    ensures fault { Judges (model.return_piece (N.numbers names.now)
-        (scope_of locals.now) (length code.old.items) value.now).blame ⊥ result }
+    ensures code { EmitsValue result code.old code.new (N.numbers names.now) locals.now value.now }
+    ensures fault { JudgesReturn result code.old (N.numbers names.now) locals.now value.now }
 {
     match value {
         Some(value) => emit(code, names, locals, value),
@@ -201,11 +192,8 @@ pub(crate) fn return_value<'a, N: Numbering>(
     value: &'a Option<Expression>,
 ) -> Result<bool, CompileFault<'a>>
     requires { length locals.now ≤ 32 }
-    ensures written { IfOk result (IsWritten (model.return_piece (N.numbers names.now)
-        (scope_of locals.now) (length code.old.items) value.now)
-        code.old.items code.new.items (scope_of locals.now)) }
-    ensures fault { Judges (model.return_piece (N.numbers names.now)
-        (scope_of locals.now) (length code.old.items) value.now).blame ⊥ result }
+    ensures written { Returns result code.old code.new (N.numbers names.now) locals.now value.now }
+    ensures fault { JudgesReturn result code.old (N.numbers names.now) locals.now value.now }
 {
     emit_returned(code, names, locals, value)?;
     put(code, Instruction::Return)?;
@@ -220,10 +208,8 @@ pub(crate) fn put_test<'a, N: Numbering>(
     test: &'a Expression,
 ) -> Result<usize, CompileFault<'a>>
     requires { length locals.now ≤ 32 }
-    ensures code { OnOk result (code.new.items ≡ code.old.items
-        ++ (expression_code (N.numbers names.now) (scope_of locals.now) test.now ++ Instruction.JumpIfZero 0 ∷ [])) }
-    ensures place { IfOk result (λ place. place ≡ length code.old.items
-        + length (expression_code (N.numbers names.now) (scope_of locals.now) test.now)) }
+    ensures code { EmitsTest result code.old code.new (N.numbers names.now) locals.now test.now }
+    ensures place { IfOk result (IsBehind (N.numbers names.now) locals.now test.now code.old) }
     ensures fault { JudgesExpression (N.numbers names.now) locals.now test.now result }
 {
     emit(code, names, locals, test)?;

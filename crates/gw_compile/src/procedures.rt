@@ -1,15 +1,17 @@
 //! Procedures of expressions and of PROCEDUREs.
 
-ghost use Rattle.std.specs.Prelude.{◌≡◌, ◌<◌, ◌≤◌, ◌++◌, [], length};
-ghost use Rattle.std.specs.Prelude.{IfOk, OnOk, MatchBool, None};
-ghost use Rattle.gw_code.specs.Limits.{most_instructions, most_locals};
+ghost use Rattle.std.specs.Prelude.{◌≡◌, ◌≤◌, [], length};
+ghost use Rattle.std.specs.Prelude.{IfOk, MatchBool, None};
+ghost use Rattle.gw_code.specs.Limits.{most_locals};
 ghost use Rattle.gw_code.specs.Grammar as grammar;
 ghost use Rattle.gw_code.specs.Grammar.{backs};
-ghost use Rattle.gw_compile.specs.Code.{IsProcedureCode, procedure_code};
+ghost use Rattle.gw_compile.specs.Code.{IsProcedureCode};
+ghost use Rattle.gw_compile.specs.Emission.{Puts};
 ghost use Rattle.gw_compile.specs.Keeps.{Compiles, CompilesProcedure, NeedsWhatItAsks};
-ghost use Rattle.gw_compile.specs.Keeps.{ExceedsLimits, KeepsCodeLimits, ExceedsCodeLimits};
+ghost use Rattle.gw_compile.specs.Keeps.{JudgesBody, JudgesProcedure};
+ghost use Rattle.gw_compile.specs.Keeps.{KeepsCodeLimits, ExceedsCodeLimits};
 ghost use Rattle.gw_compile.specs.Statements as model;
-ghost use Rattle.gw_compile.specs.Statements.{JudgesPiece, body_code, end_code, when};
+ghost use Rattle.gw_compile.specs.Statements.{JudgesPiece, end_code, when};
 ghost use Rattle.gw_compile.specs.Unknown.{Judges, first_blame};
 
 use crate::emission::{emit, put};
@@ -70,8 +72,7 @@ pub fn compile<'a, N: Numbering>(
     expression: &'a Expression,
 ) -> Result<Procedure, CompileFault<'a>>
     ensures compiled { Compiles (N.numbers names.now) procedures.now expression.now result }
-    ensures fault { Judges (first_blame (N.numbers names.now) [] expression.now)
-        (most_instructions < length (procedure_code (N.numbers names.now) expression.now)) result }
+    ensures fault { JudgesProcedure (N.numbers names.now) expression.now result }
 {
     let code = code_of(alloc, names, expression)?;
     if code.len() > MOST_INSTRUCTIONS {
@@ -93,7 +94,7 @@ struct Body {
 
 /// The end of a PROCEDURE, where a path comes to it: its value is 0.
 fn put_end<'a>(code: &mut Vec<Instruction>, is_reached: bool) -> Result<(), CompileFault<'a>>
-    ensures code { OnOk result (code.new.items ≡ code.old.items ++ when is_reached end_code) }
+    ensures code { Puts result code.old code.new (when is_reached end_code) }
     ensures fault { Judges None ⊥ result }
 {
     if is_reached {
@@ -110,11 +111,11 @@ fn body_of<'a, N: Numbering>(
     procedure: &'a text::Procedure,
 ) -> Result<Body, CompileFault<'a>>
     ensures arguments { IfOk result (λ b. b.arguments ≡ length procedure.now.arguments.items) }
-    ensures locals { IfOk result (λ body.
-        body.locals ≡ length (model.body_of (N.numbers names.now) procedure.now).scope) }
+    ensures locals { IfOk result (λ b.
+        b.locals ≡ model.local_count (N.numbers names.now) procedure.now) }
     ensures room { IfOk result (λ body. body.locals ≤ most_locals) }
-    ensures code { IfOk result (λ body.
-        body.code.items ≡ body_code (model.body_of (N.numbers names.now) procedure.now)) }
+    ensures code { IfOk result (λ b.
+        b.code.items ≡ model.code_of (N.numbers names.now) procedure.now) }
     ensures fault { JudgesPiece (model.body_of (N.numbers names.now) procedure.now) result }
 {
     let mut code = Vec::new(alloc);
@@ -163,8 +164,7 @@ pub fn compile_procedure<'a, N: Numbering>(
     procedure: &'a text::Procedure,
 ) -> Result<Procedure, CompileFault<'a>>
     ensures compiled { CompilesProcedure (N.numbers names.now) procedures.now procedure.now result }
-    ensures fault { Judges (model.body_of (N.numbers names.now) procedure.now).blame
-        (ExceedsLimits (model.body_of (N.numbers names.now) procedure.now)) result }
+    ensures fault { JudgesBody (model.body_of (N.numbers names.now) procedure.now) result }
 {
     let body = body_of(alloc, names, procedure)?;
     if !keeps_limits(&body.code) {

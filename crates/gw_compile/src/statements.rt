@@ -1,9 +1,8 @@
 //! From the statements of a PROCEDURE to instructions.
 
-ghost use Rattle.std.specs.Prelude.{◌≤◌, length, true, OnOk, IfOk};
-ghost use Rattle.gw_compile.specs.Scope.{scope_of};
-ghost use Rattle.gw_compile.specs.Statements.{IsWritten, JudgesPiece, piece, sequence, reached_piece};
-ghost use Rattle.gw_compile.specs.Statements.{if_without_else, while_piece};
+ghost use Rattle.std.specs.Prelude.{◌≤◌, length, OnOk};
+ghost use Rattle.gw_compile.specs.Writing.{Writes, WritesAll, WritesIf, Joins, Loops};
+ghost use Rattle.gw_compile.specs.Writing.{JudgesBlock, JudgesIf, JudgesStatement, JudgesWhile};
 
 use crate::faults::CompileFault;
 use crate::numbering::Numbering;
@@ -24,13 +23,10 @@ pub(crate) fn put_statement<'a, N: Numbering>(
     statement: &'a PlusStatement,
 ) -> Result<bool, CompileFault<'a>>
     requires { length locals.old.items ≤ 32 }
-    ensures written { IfOk result (IsWritten
-        (piece (N.numbers names.now) (scope_of locals.old.items) (length code.old.items) statement.now)
-        code.old.items code.new.items (scope_of locals.new.items)) }
+    ensures written { Writes result code.old code.new locals.old locals.new
+        (N.numbers names.now) statement.now }
     ensures room { OnOk result (length locals.new.items ≤ 32) }
-    ensures fault { JudgesPiece
-        (piece (N.numbers names.now) (scope_of locals.old.items) (length code.old.items) statement.now)
-        result }
+    ensures fault { JudgesStatement result code.old locals.old (N.numbers names.now) statement.now }
 {
     match statement {
         PlusStatement::Block(statements) => put_block(code, names, locals, statements),
@@ -65,15 +61,10 @@ fn put_block<'a, N: Numbering>(
     statements: &'a [PlusStatement],
 ) -> Result<bool, CompileFault<'a>>
     requires { length locals.old.items ≤ 32 }
-    ensures written { IfOk result (IsWritten
-        (sequence (N.numbers names.now) (scope_of locals.old.items)
-        (length code.old.items) true statements.now)
-        code.old.items code.new.items (scope_of locals.new.items)) }
+    ensures written { WritesAll result code.old code.new locals.old locals.new
+        (N.numbers names.now) statements.now }
     ensures room { OnOk result (length locals.new.items ≤ 32) }
-    ensures fault { JudgesPiece
-        (sequence (N.numbers names.now) (scope_of locals.old.items)
-        (length code.old.items) true statements.now)
-        result }
+    ensures fault { JudgesBlock result code.old locals.old (N.numbers names.now) statements.now }
 {
     let mut reached = true;
     for i in 0..statements.len() {
@@ -92,14 +83,10 @@ fn put_next<'a, N: Numbering>(
     statement: &'a PlusStatement,
 ) -> Result<bool, CompileFault<'a>>
     requires { length locals.old.items ≤ 32 }
-    ensures written { IfOk result (IsWritten
-        (reached_piece reached
-        (piece (N.numbers names.now) (scope_of locals.old.items) (length code.old.items) statement.now))
-        code.old.items code.new.items (scope_of locals.new.items)) }
+    ensures written { Joins result code.old code.new locals.old locals.new
+        (N.numbers names.now) reached statement.now }
     ensures room { OnOk result (length locals.new.items ≤ 32) }
-    ensures fault { JudgesPiece
-        (piece (N.numbers names.now) (scope_of locals.old.items) (length code.old.items) statement.now)
-        result }
+    ensures fault { JudgesStatement result code.old locals.old (N.numbers names.now) statement.now }
 {
     let start = code.len();
     let goes_on = put_statement(code, names, locals, statement)?;
@@ -120,15 +107,10 @@ fn put_if<'a, N: Numbering>(
     test: &'a Expression,
 ) -> Result<bool, CompileFault<'a>>
     requires { length locals.old.items ≤ 32 }
-    ensures written { IfOk result (IsWritten
-        (if_without_else (N.numbers names.now) (scope_of locals.old.items)
-        (length code.old.items) test.now first.now)
-        code.old.items code.new.items (scope_of locals.new.items)) }
+    ensures written { WritesIf result code.old code.new locals.old locals.new
+        (N.numbers names.now) test.now first.now }
     ensures room { OnOk result (length locals.new.items ≤ 32) }
-    ensures fault { JudgesPiece
-        (if_without_else (N.numbers names.now) (scope_of locals.old.items)
-        (length code.old.items) test.now first.now)
-        result }
+    ensures fault { JudgesIf result code.old locals.old (N.numbers names.now) test.now first.now }
 {
     let at = put_test(code, names, locals, test)?;
     put_statement(code, names, locals, first)?;
@@ -146,15 +128,10 @@ fn put_while<'a, N: Numbering>(
     test: &'a Expression,
 ) -> Result<bool, CompileFault<'a>>
     requires { length locals.old.items ≤ 32 }
-    ensures written { IfOk result (IsWritten
-        (while_piece (N.numbers names.now) (scope_of locals.old.items)
-        (length code.old.items) test.now body.now)
-        code.old.items code.new.items (scope_of locals.new.items)) }
+    ensures written { Loops result code.old code.new locals.old locals.new
+        (N.numbers names.now) test.now body.now }
     ensures room { OnOk result (length locals.new.items ≤ 32) }
-    ensures fault { JudgesPiece
-        (while_piece (N.numbers names.now) (scope_of locals.old.items)
-        (length code.old.items) test.now body.now)
-        result }
+    ensures fault { JudgesWhile result code.old locals.old (N.numbers names.now) test.now body.now }
 {
     let target = next_place(code);
     let at = put_test(code, names, locals, test)?;

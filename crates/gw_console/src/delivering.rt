@@ -2,7 +2,7 @@
 
 ghost use Rattle.std.specs.Prelude.{◌≡◌, ◌≢◌, false, MatchResult};
 ghost use Rattle.gw_answers.specs.Status.{failed};
-ghost use Rattle.gw_console.specs.Output.{Writes, Fails};
+ghost use Rattle.gw_console.specs.Output.{Writes, WritesOrFails};
 ghost use Rattle.gw_console.specs.Calls.{wanted_status, EndsWith};
 
 use crate::fault::ProgramFault;
@@ -29,9 +29,7 @@ pub fn write_and_end<W: Write>(writer: &mut Output<W>, text: &[u8], status: u8) 
 /// Writes an answer, or the line on want of memory; where a read failed, nothing. It answers the status.
 pub fn deliver<W: Write>(writer: &mut Output<W>, answer: Result<Answer, ProgramFault>) -> u8
     requires { writer.old.failed ≡ false }
-    ensures bytes { MatchResult answer
-        (λ a. Writes a.text.items a.status result writer.old.held writer.new.held)
-        (λ fault. Fails fault result writer.old.held writer.new.held) }
+    ensures bytes { WritesOrFails answer result writer.old.held writer.new.held }
     ensures told { EndsWith (wanted_status answer) result writer.new.failed }
     ensures flushed { result ≢ failed → writer.new.waits ≡ false }
 {

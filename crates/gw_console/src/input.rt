@@ -2,7 +2,7 @@
 
 ghost use Rattle.std.specs.Prelude.{◌≡◌, ◌≤◌, ◌<◌, ◌+◌, ◌⊎◌, false, take, length, IfOk, IfErr, IfSome};
 ghost use Rattle.std.specs.Io.KnownBytes.{Consumes, IsAtEnd};
-ghost use Rattle.gw_console.specs.Input.{TakesSome};
+ghost use Rattle.gw_console.specs.Input.{ReadsSome};
 ghost use Rattle.gw_console.specs.Calls.{LosesAtMost, TellsReads};
 
 use crate::fault::ProgramFault;
@@ -19,8 +19,7 @@ fn read_some<R: Read>(
 ) -> Result<usize, ProgramFault>
     requires some { 0 < most }
     requires unfailed { reader.old.failed ≡ false }
-    ensures taken { IfOk result (λ n.
-        TakesSome n most input.old.items input.new.items reader.old.left reader.new.left) }
+    ensures taken { ReadsSome most result input.old input.new reader.old.left reader.new.left }
     ensures faults { IfErr result (λ fault.
         (fault ≡ ProgramFault.Read) ⊎ (fault ≡ ProgramFault.Memory)) }
     ensures told { TellsReads result reader.old.failed reader.new.failed }

@@ -1,9 +1,8 @@
 //! Writing the output.
 
-ghost use Rattle.std.specs.Prelude.{◌≡◌, ◌<◌, ◌≤◌, false, length, take, OnOk, MatchResult};
-ghost use Rattle.std.specs.Io.KnownBytes.{Appends, Keeps};
+ghost use Rattle.std.specs.Prelude.{◌≡◌, ◌<◌, false, length, OnOk};
 ghost use Rattle.gw_streams.specs.Streams.{MarksFailure};
-ghost use Rattle.gw_console.specs.Output.{AppendsFront};
+ghost use Rattle.gw_console.specs.Output.{WritesSome, WritesText};
 
 use crate::fault::ProgramFault;
 use gw_streams::Output;
@@ -14,9 +13,7 @@ use std::io::Write;
 fn write_some<W: Write>(writer: &mut Output<W>, text: &[u8]) -> Result<usize, ProgramFault>
     requires some { 0 < length text.now }
     requires unfailed { writer.old.failed ≡ false }
-    ensures bytes { MatchResult result
-        (λ n. (0 < n) × (n ≤ length text.now) × Appends writer.old.held writer.new.held (take n text.now))
-        (λ fault. (fault ≡ ProgramFault.Write) × Keeps writer.old.held writer.new.held) }
+    ensures bytes { WritesSome text.now result writer.old.held writer.new.held }
     ensures told { MarksFailure result writer.old.failed writer.new.failed }
 {
     match writer.write(text) {
@@ -29,9 +26,7 @@ fn write_some<W: Write>(writer: &mut Output<W>, text: &[u8]) -> Result<usize, Pr
 /// writer then has a front of the text.
 pub fn write_text<W: Write>(writer: &mut Output<W>, text: &[u8]) -> Result<(), ProgramFault>
     requires { writer.old.failed ≡ false }
-    ensures bytes { MatchResult result
-        (λ _. Appends writer.old.held writer.new.held text.now)
-        (λ fault. (fault ≡ ProgramFault.Write) × AppendsFront writer.old.held writer.new.held text.now) }
+    ensures bytes { WritesText text.now result writer.old.held writer.new.held }
     ensures told { MarksFailure result writer.old.failed writer.new.failed }
     ensures flushed { OnOk result (writer.new.waits ≡ false) }
 {

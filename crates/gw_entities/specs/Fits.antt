@@ -32,3 +32,7 @@ StaysFit Fits old new = (passed : ℕ) → Fits passed old → Fits passed new
 -- what fits does so in so much time more
 abbrev pub FitsLater : {T : Type 0} → (ℕ → T → Type 0) → ℕ → T → T → Type 0
 FitsLater Fits dt old new = (passed : ℕ) → Fits passed old → Fits (passed + dt) new
+
+-- contents that fit do so with n units more, where no more are inside then than there may be
+abbrev pub FitsWithMore : ℕ → Contents → Contents → Type 0
+FitsWithMore n old new = (most passed : ℕ) → ContentsFit most passed old → old.content + n ≤ most → ContentsFit most passed new

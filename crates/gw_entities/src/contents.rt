@@ -2,7 +2,7 @@
 
 ghost use Rattle.std.specs.Prelude.{◌≡◌, ◌≤◌, ◌<◌, ◌+◌, ◌^◌, ℕ};
 ghost use Rattle.gw_entities.specs.Contents as model;
-ghost use Rattle.gw_entities.specs.Fits.{ContentsFit, FitsLater, StaysFit};
+ghost use Rattle.gw_entities.specs.Fits.{ContentsFit, FitsLater, StaysFit, FitsWithMore};
 
 /// What is inside a storage or a queue, in units, and what the report says of it.
 #[derive(Clone, Copy, Debug, PartialEq, Eq)]
@@ -35,8 +35,7 @@ impl Contents {
         requires content { self.old.content + n ≤ 2 ^ 62 }
         requires entries { self.old.entries + n ≤ 2 ^ 62 }
         ensures value { self.new ≡ model.added n self.old }
-        ensures fits { (most passed : ℕ) → ContentsFit most passed self.old
-            → self.old.content + n ≤ most → ContentsFit most passed self.new }
+        ensures fits { FitsWithMore n self.old self.new }
     {
         let n = u64::from(n);
         self.content += n;

@@ -2,9 +2,8 @@
 
 ghost use Rattle.std.specs.Prelude.{◌≡◌, ◌≤◌, ◌<◌, ◌+◌, ◌^◌, ℕ, length, map, IfOk};
 ghost use Rattle.gw_object.specs.declared.parts.Kind.{Kind};
-ghost use Rattle.gw_object.specs.declared.parts.Entity.{Entity};
 ghost use Rattle.std.specs.List.{All};
-ghost use Rattle.gw_entities.specs.Numbered.{IsKept, at_start, values_after, value_at, with_value, today};
+ghost use Rattle.gw_entities.specs.Numbered.{IsKept, at_start, values_after, value_at, with_value, today, of_each};
 
 use gw_object::{Entity, Kind, Memory, Object};
 use std::alloc::Global;
@@ -91,8 +90,7 @@ impl<T: Timed> Model for Numbered<T> {
 
 /// What is kept of each of these entities at clock 0.
 fn kept_at_start<T: Timed>(alloc: Global, entities: &[Entity]) -> Result<Vec<Kept<T>>, Memory>
-    ensures values { let fresh = map (λ (e : Entity). T.fresh e.kind) entities.now in
-        IfOk result (λ kept. map (today T.after 0) kept.items ≡ fresh) }
+    ensures values { IfOk result (λ kept. map (today T.after 0) kept.items ≡ of_each T.fresh entities.now) }
     ensures fits { IfOk result (λ kept. All (IsKept T.Fits 0) kept.items) }
 {
     let mut kept = Vec::new(alloc);

@@ -1,5 +1,6 @@
 -- The codes of refusals, and the advice on each.
 use Rattle.std.specs.Prelude.{ℕ, List, [], ◌∷◌, ◌++◌, codes, Bool, ◌==◌, Option, Some, None, if◌then◌else◌}
+use Rattle.std.specs.Borrow.{Bor}
 use Rattle.std.specs.List.{list_any}
 use Rattle.gw_answers.specs.declared.names.TheConstants.{NAMES}
 use Rattle.gw_explain.specs.declared.advice.TheConstants.{ADVICE}
@@ -17,9 +18,13 @@ abbrev pub words_in : {R : Type 0} → (R → ℕ) → (R → List ℕ × List �
 words_in key words [] code = None
 words_in key words (row ∷ rows) code = if key row == code then Some (words row) else words_in key words rows code
 
+-- those of a code, where a row has it first
+abbrev pub words_of_code : List (ℕ × Bor (List ℕ) × Bor (List ℕ)) → ℕ → Option (List ℕ × List ℕ)
+words_of_code rows code = words_in (λ row. row.0) (λ row. (row.1.now, row.2.now)) rows code
+
 -- what is wrong by a code, and how to mend it: its row of the table
 unfoldable pub advice_words : ℕ → Option (List ℕ × List ℕ)
-advice_words code = words_in (λ row. row.0) (λ row. (row.1.now, row.2.now)) ADVICE code
+advice_words code = words_of_code ADVICE code
 
 -- a line each, with what is known between them
 abbrev pub lines_of_words : List ℕ → List ℕ × List ℕ → List ℕ

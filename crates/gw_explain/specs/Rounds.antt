@@ -2,7 +2,8 @@
 use Rattle.std.specs.Prelude.{ℕ, ◌-◌, List, [], ◌++◌, length, take, slice_get, codes, Option, Some, None, nat_lt, if◌then◌else◌}
 use Rattle.std.specs.Fmt.{decimal}
 use Rattle.std.specs.List.{flat_map}
-use Rattle.gw_explain.specs.Shown.{shown_blocks}
+use Rattle.gw_explain.specs.declared.lines.Text.{Text}
+use Rattle.gw_explain.specs.Shown.{bytes_of, shown_blocks}
 
 -- the blocks of a round that are told
 abbrev pub first_blocks : List ℕ → List ℕ
@@ -40,3 +41,7 @@ round_line round = round_title ++ enumeration (first_blocks round) ++ count_of_o
 -- and below it the lines of its blocks that are told
 abbrev pub shown_round : List (List ℕ) → List ℕ → List ℕ → List ℕ
 shown_round lines blocks round = round_line round ++ shown_blocks lines blocks (first_blocks round)
+
+-- the same in a text
+abbrev pub round_in : Text → List ℕ → List ℕ
+round_in text round = shown_round (bytes_of text.lines.now) text.blocks.now round

@@ -1,12 +1,18 @@
 -- The lines of a model text that a refusal is about, as they are shown.
-use Rattle.std.specs.Prelude.{ℕ, zero, suc, List, [], ◌∷◌, ◌++◌, Option, Some, None, codes, take, slice_get, unwrap_or, ◌==◌, if◌then◌else◌}
+use Rattle.std.specs.Prelude.{ℕ, zero, suc, List, [], ◌∷◌, ◌++◌, Option, Some, None, codes, map, take, slice_get, unwrap_or, ◌==◌, if◌then◌else◌}
+use Rattle.std.specs.Borrow.{Bor}
 use Rattle.std.specs.Fmt.{decimal}
 use Rattle.std.specs.List.{flat_map}
 use Rattle.gw_object.specs.declared.fault.Place.{Place}
 use Rattle.gw_object.specs.declared.fault.Place.TheVariants.{Byte, Entity, Code, Row, Block, Edge, Chain, Line, Nowhere}
 use Rattle.gw_sources.specs.Sites.{Sites}
+use Rattle.gw_explain.specs.declared.lines.Text.{Text}
 
 -- LINES
+
+-- the bytes of lines
+abbrev pub bytes_of : List (Bor (List ℕ)) → List (List ℕ)
+bytes_of lines = map (λ (l : Bor (List ℕ)). l.now) lines
 
 -- the line of this number, from 1
 abbrev pub text_line : List (List ℕ) → ℕ → List ℕ
@@ -35,6 +41,10 @@ shown_block lines blocks (suc i) = shown_at lines blocks i
 -- the lines of the blocks of these numbers, in this order
 abbrev pub shown_blocks : List (List ℕ) → List ℕ → List ℕ → List ℕ
 shown_blocks lines blocks numbers = flat_map (shown_block lines blocks) numbers
+
+-- the same in a text
+abbrev pub blocks_in : Text → List ℕ → List ℕ
+blocks_in text numbers = shown_blocks (bytes_of text.lines.now) text.blocks.now numbers
 
 -- the lines of the block from which an edge leads and of that to which it leads, or of the one block
 abbrev pub shown_edge : List (List ℕ) → List ℕ → ℕ → ℕ → List ℕ

@@ -329,8 +329,7 @@ pub const ADVICE: [(u16, &str, &str); 63] = [
 
 /// What the row of a code says, if these rows have one.
 fn advice_in(rows: &[(u16, &'static str, &'static str)], code: u16) -> Option<Advice>
-    ensures { option_map (λ a. (a.wrong.now, a.mend.now)) result
-        ≡ codes.words_in (λ row. row.0) (λ row. (row.1.now, row.2.now)) rows.now code }
+    ensures { option_map (λ a. (a.wrong.now, a.mend.now)) result ≡ codes.words_of_code rows.now code }
 {
     match rows {
         [] => None,

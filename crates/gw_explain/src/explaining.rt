@@ -1,10 +1,11 @@
 //! The explanation of a model text, or of an object.
 
-ghost use Rattle.std.specs.Prelude.{◌≡◌, map, IfOk, OnOk};
+ghost use Rattle.std.specs.Prelude.{◌≡◌, IfOk, OnOk};
 ghost use Rattle.gw_answers.specs.Status.{ended as ended_status, refused as refused_status};
 ghost use Rattle.gw_answers.specs.Answer.{accepted_line};
-ghost use Rattle.gw_sources.specs.Sites.{no_sites, sites_of, sites_told};
-ghost use Rattle.gw_explain.specs.Explanation.{Begins, ExplainsRefusal, TellsFault, IsExplainedModel, IsExplainedText, IsExplained};
+ghost use Rattle.gw_sources.specs.Sites.{no_sites, sites_told};
+ghost use Rattle.gw_explain.specs.Explanation.{AddsFault, Begins, ExplainsModelRefusal, ExplainsRefusal};
+ghost use Rattle.gw_explain.specs.Explanation.{IsExplained, IsExplainedModel, IsExplainedText};
 
 use crate::facts::known_in_model;
 use crate::forms::{put_marks, put_words_on_site, site_of};
@@ -32,8 +33,7 @@ fn put_told(
     sources: &Sources,
     fault: Fault,
 ) -> Result<(), Memory>
-    ensures { OnOk result (TellsFault (map (λ l. l.now) lines.now) (sites_told sources.now) fault
-        out.old.items out.new.items) }
+    ensures { OnOk result (AddsFault lines.now sources.now fault out.old out.new) }
 {
     let site = site_of(alloc, lines, fault)?;
     put_lines_of(out, lines, sources, fault.place)?;
@@ -84,8 +84,7 @@ fn known_of(
 
 /// The explanation of a refusal of a model text that was read.
 fn refusal_in(alloc: Global, text: &[u8], model: &Model, fault: Fault) -> Result<Answer, Memory>
-    ensures text { IfOk result (λ a.
-        ExplainsRefusal text.now (sites_of model.now.statements.items) fault a.text.items) }
+    ensures text { IfOk result (ExplainsModelRefusal text.now model.now fault) }
     ensures status { IfOk result (λ a. a.status ≡ refused_status) }
 {
     let sources = sources(alloc, model)?;

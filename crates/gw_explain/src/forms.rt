@@ -1,8 +1,10 @@
 //! The form of GPSS World that a line has and this language hasn't: where it stands, and what stands in its place.
 
-ghost use Rattle.std.specs.Prelude.{◌≡◌, ◌++◌, map, IfOk, IfSome, OnOk};
+ghost use Rattle.std.specs.Prelude.{◌≡◌, ◌++◌, IfOk, IfSome, OnOk};
 ghost use Rattle.std.specs.List.{flat_map};
+ghost use Rattle.gw_report.specs.Report.{Puts};
 ghost use Rattle.gw_forms.specs.Places.{IsWithin};
+ghost use Rattle.gw_explain.specs.Shown.{bytes_of};
 ghost use Rattle.gw_explain.specs.Marks.{AddsMarks, blank_under, mark_under, front_of_line, marks_under, goes_on as goes_on_with};
 ghost use Rattle.gw_explain.specs.Sitting.{IsSiteOf};
 
@@ -31,7 +33,7 @@ fn site_on<'a>(
     code: u16,
 ) -> Result<Option<Site<'a>>, Memory>
     ensures { IfOk result (λ site. IfSome site
-        (λ s. IsSiteOf (map (λ l. l.now) lines.now) (Place.Line number) s)) }
+        (λ s. IsSiteOf (bytes_of lines.now) (Place.Line number) s)) }
 {
     let line = text_line(lines, number);
     match find_form(alloc, line, code)? {
@@ -51,7 +53,7 @@ pub(crate) fn site_of<'a>(
     fault: Fault,
 ) -> Result<Option<Site<'a>>, Memory>
     ensures { IfOk result (λ site. IfSome site
-        (λ s. IsSiteOf (map (λ l. l.now) lines.now) fault.place s)) }
+        (λ s. IsSiteOf (bytes_of lines.now) fault.place s)) }
 {
     match fault.place {
         Place::Line(number) => site_on(alloc, lines, number, fault.code),
@@ -68,7 +70,7 @@ fn goes_on(byte: u8) -> bool
 
 /// What stands under a byte that isn't at fault.
 fn put_blank(out: &mut Vec<u8>, byte: u8) -> Result<(), Memory>
-    ensures { OnOk result (out.new.items ≡ out.old.items ++ blank_under byte) }
+    ensures { Puts result out.old out.new (blank_under byte) }
 {
     if goes_on(byte) {
         return Ok(());
@@ -78,7 +80,7 @@ fn put_blank(out: &mut Vec<u8>, byte: u8) -> Result<(), Memory>
 
 /// What stands under one that is.
 fn put_caret(out: &mut Vec<u8>, byte: u8) -> Result<(), Memory>
-    ensures { OnOk result (out.new.items ≡ out.old.items ++ mark_under byte) }
+    ensures { Puts result out.old out.new (mark_under byte) }
 {
     if goes_on(byte) {
         return Ok(());
@@ -88,7 +90,7 @@ fn put_caret(out: &mut Vec<u8>, byte: u8) -> Result<(), Memory>
 
 /// What stands under bytes that aren't at fault.
 fn put_blanks(out: &mut Vec<u8>, bytes: &[u8]) -> Result<(), Memory>
-    ensures { OnOk result (out.new.items ≡ out.old.items ++ flat_map blank_under bytes.now) }
+    ensures { Puts result out.old out.new (flat_map blank_under bytes.now) }
 {
     for byte in bytes {
         put_blank(out, *byte)?;
@@ -98,7 +100,7 @@ fn put_blanks(out: &mut Vec<u8>, bytes: &[u8]) -> Result<(), Memory>
 
 /// What stands under bytes that are.
 fn put_carets(out: &mut Vec<u8>, bytes: &[u8]) -> Result<(), Memory>
-    ensures { OnOk result (out.new.items ≡ out.old.items ++ flat_map mark_under bytes.now) }
+    ensures { Puts result out.old out.new (flat_map mark_under bytes.now) }
 {
     for byte in bytes {
         put_caret(out, *byte)?;
@@ -127,7 +129,7 @@ fn put_marks_under(
     to: usize,
 ) -> Result<(), Memory>
     requires { IsWithin from to line.now }
-    ensures { OnOk result (out.new.items ≡ out.old.items ++ marks_under number line.now from to) }
+    ensures { Puts result out.old out.new (marks_under number line.now from to) }
 {
     let front = front_with(alloc, number, &line[..from])?;
     put_blanks(out, &front)?;
@@ -143,9 +145,9 @@ pub(crate) fn put_marks(
     place: Place,
     site: Option<Site<'_>>,
 ) -> Result<(), Memory>
-    requires { IfSome site (λ s. IsSiteOf (map (λ l. l.now) lines.now) place s) }
+    requires { IfSome site (λ s. IsSiteOf (bytes_of lines.now) place s) }
     ensures { OnOk result
-        (AddsMarks (map (λ l. l.now) lines.now) place out.old.items out.new.items) }
+        (AddsMarks (bytes_of lines.now) place out.old.items out.new.items) }
 {
     match site {
         Some(s) => put_marks_under(alloc, out, s.number, s.line, s.found.from, s.found.to),

@@ -1,8 +1,10 @@
 //! The lines of a model text that a refusal is about.
 
-ghost use Rattle.std.specs.Prelude.{◌≡◌, ◌++◌, take, slice_get, map, option_map, OnOk};
+ghost use Rattle.std.specs.Prelude.{◌≡◌, take, slice_get, option_map};
+ghost use Rattle.gw_report.specs.Report.{Puts};
 ghost use Rattle.gw_sources.specs.Sites.{sites_told};
 ghost use Rattle.gw_explain.specs.Shown as shown;
+ghost use Rattle.gw_explain.specs.Shown.{bytes_of, shown_lines};
 
 use gw_object::{Memory, Place};
 use gw_report::text::{put, put_number};
@@ -13,14 +15,14 @@ const MOST_SHOWN: usize = 1000;
 
 /// The line at a place, from 0.
 fn line_at<'a>(lines: &[&'a [u8]], place: usize) -> Option<&'a [u8]>
-    ensures { option_map (λ l. l.now) result ≡ slice_get (map (λ l. l.now) lines.now) place }
+    ensures { option_map (λ l. l.now) result ≡ slice_get (bytes_of lines.now) place }
 {
     lines.get(place).copied()
 }
 
 /// The line of a number, from 1; an empty one where there is none.
 pub(crate) fn text_line<'a>(lines: &[&'a [u8]], number: u32) -> &'a [u8]
-    ensures { result.now ≡ shown.text_line (map (λ l. l.now) lines.now) number }
+    ensures { result.now ≡ shown.text_line (bytes_of lines.now) number }
 {
     if number == 0 {
         return &[];
@@ -53,8 +55,7 @@ fn front_of(line: &[u8]) -> &[u8]
 
 /// A line with its number, behind what there is.
 fn put_line(out: &mut Vec<u8>, lines: &[&[u8]], number: u32) -> Result<(), Memory>
-    ensures { OnOk result (out.new.items
-        ≡ out.old.items ++ shown.shown_line (map (λ l. l.now) lines.now) number) }
+    ensures { Puts result out.old out.new (shown.shown_line (bytes_of lines.now) number) }
 {
     put_number(out, "line ", number)?;
     put(out, " | ")?;
@@ -69,8 +70,7 @@ fn put_line_at(
     numbers: &[u32],
     place: usize,
 ) -> Result<(), Memory>
-    ensures { OnOk result (out.new.items
-        ≡ out.old.items ++ shown.shown_at (map (λ l. l.now) lines.now) numbers.now place) }
+    ensures { Puts result out.old out.new (shown.shown_at (bytes_of lines.now) numbers.now place) }
 {
     match numbers.get(place) {
         Some(number) => put_line(out, lines, *number),
@@ -80,8 +80,7 @@ fn put_line_at(
 
 /// The line of the block of a number, from 1.
 fn put_block(out: &mut Vec<u8>, lines: &[&[u8]], blocks: &[u32], number: u16) -> Result<(), Memory>
-    ensures { OnOk result (out.new.items
-        ≡ out.old.items ++ shown.shown_block (map (λ l. l.now) lines.now) blocks.now number) }
+    ensures { Puts result out.old out.new (shown.shown_block (bytes_of lines.now) blocks.now number) }
 {
     if number == 0 {
         Ok(())
@@ -98,8 +97,7 @@ fn put_edge(
     from: u16,
     to: u16,
 ) -> Result<(), Memory>
-    ensures { OnOk result (out.new.items
-        ≡ out.old.items ++ shown.shown_edge (map (λ l. l.now) lines.now) blocks.now from to) }
+    ensures { Puts result out.old out.new (shown.shown_edge (bytes_of lines.now) blocks.now from to) }
 {
     put_block(out, lines, blocks, from)?;
     if from == to {
@@ -111,8 +109,7 @@ fn put_edge(
 
 /// The lines of blocks of these numbers, from 1, in this order, behind what there is.
 pub(crate) fn put_blocks(out: &mut Vec<u8>, text: &Text<'_>, numbers: &[u16]) -> Result<(), Memory>
-    ensures { OnOk result (out.new.items
-        ≡ out.old.items ++ shown.shown_blocks (map (λ l. l.now) text.now.lines.now) text.now.blocks.now numbers.now) }
+    ensures { Puts result out.old out.new (shown.blocks_in text.now numbers.now) }
 {
     for number in numbers {
         put_block(out, text.lines, text.blocks, *number)?;
@@ -127,8 +124,7 @@ pub(crate) fn put_lines_of(
     sources: &Sources,
     place: Place,
 ) -> Result<(), Memory>
-    ensures { OnOk result (out.new.items
-        ≡ out.old.items ++ shown.shown_lines (map (λ l. l.now) lines.now) (sites_told sources.now) place) }
+    ensures { Puts result out.old out.new (shown_lines (bytes_of lines.now) (sites_told sources.now) place) }
 {
     match place {
         Place::Line(number) => put_line(out, lines, number),

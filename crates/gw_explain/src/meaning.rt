@@ -1,6 +1,7 @@
 //! What a code means, and the words on it.
 
-ghost use Rattle.std.specs.Prelude.{◌≡◌, ◌≤◌, ◌++◌, length, drop, IfOk, OnOk};
+ghost use Rattle.std.specs.Prelude.{◌≡◌, ◌≤◌, length, drop, IfOk, OnOk};
+ghost use Rattle.gw_report.specs.Report.{Puts};
 ghost use Rattle.gw_answers.specs.Status.{ended};
 ghost use Rattle.gw_explain.specs.Codes.{lines_of_words, advice_lines};
 ghost use Rattle.gw_explain.specs.Explanation.{IsAdvised};
@@ -15,8 +16,7 @@ use std::alloc::Global;
 
 /// A line for what is wrong and one for how to mend it, with what is known between them, behind what there is.
 fn put_lines(out: &mut Vec<u8>, wrong: &str, known: &[u8], mend: &str) -> Result<(), Memory>
-    ensures { OnOk result (out.new.items
-        ≡ out.old.items ++ lines_of_words known.now (wrong.now, mend.now)) }
+    ensures { Puts result out.old out.new (lines_of_words known.now (wrong.now, mend.now)) }
 {
     put(out, "wrong: ")?;
     put(out, wrong)?;
@@ -29,7 +29,7 @@ fn put_lines(out: &mut Vec<u8>, wrong: &str, known: &[u8], mend: &str) -> Result
 
 /// The words on a code, with what is known between them, behind what there is.
 fn put_words(out: &mut Vec<u8>, known: &[u8], code: u16) -> Result<(), Memory>
-    ensures { OnOk result (out.new.items ≡ out.old.items ++ advice_lines known.now code) }
+    ensures { Puts result out.old out.new (advice_lines known.now code) }
 {
     match advice_on(code) {
         Some(advice) => put_lines(out, advice.wrong, known, advice.mend),
@@ -56,7 +56,7 @@ fn behind_refused(line: &[u8]) -> &[u8]
 /// A code with its name, as a refusal has them, behind what there is.
 #[tactic(auto, using(crate::proofs::Naming::long_enough))]
 fn put_code(alloc: Global, out: &mut Vec<u8>, code: u16) -> Result<(), Memory>
-    ensures { OnOk result (out.new.items ≡ out.old.items ++ code_line code) }
+    ensures { Puts result out.old out.new (code_line code) }
 {
     let place = Place::Nowhere;
     let refusal = refused(alloc, Refusal(Fault { code, place }))?;

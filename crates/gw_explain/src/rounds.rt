@@ -1,6 +1,7 @@
 //! A round on which no time passes and that has no weight certificate, with the lines of its blocks, in words.
 
-ghost use Rattle.std.specs.Prelude.{◌≡◌, ◌++◌, map, slice_get, OnOk};
+ghost use Rattle.std.specs.Prelude.{◌≡◌, slice_get};
+ghost use Rattle.gw_report.specs.Report.{Puts};
 ghost use Rattle.gw_explain.specs.Rounds as model;
 
 use crate::causes::{named_blocks, put_cause, put_way_out};
@@ -36,7 +37,7 @@ fn first_blocks(round: &[u16]) -> &[u16]
 
 /// Blocks, each with a comma behind it.
 fn put_enumeration(out: &mut Vec<u8>, numbers: &[u16]) -> Result<(), Memory>
-    ensures { OnOk result (out.new.items ≡ out.old.items ++ model.enumeration numbers.now) }
+    ensures { Puts result out.old out.new (model.enumeration numbers.now) }
 {
     for number in numbers {
         put_number(out, "block ", *number)?;
@@ -47,7 +48,7 @@ fn put_enumeration(out: &mut Vec<u8>, numbers: &[u16]) -> Result<(), Memory>
 
 /// How many blocks a round has besides those that are told, if it has more.
 fn put_others(out: &mut Vec<u8>, round: &[u16]) -> Result<(), Memory>
-    ensures { OnOk result (out.new.items ≡ out.old.items ++ model.count_of_others round.now) }
+    ensures { Puts result out.old out.new (model.count_of_others round.now) }
 {
     if round.len() > MOST_TOLD {
         put_number(out, "", round.len() - MOST_TOLD)?;
@@ -67,14 +68,14 @@ fn first_of(round: &[u16]) -> Option<u16>
 /// What stands before the block to which a round comes back.
 #[tactic(auto, unfolding(crate::specs::Rounds::return_title))]
 fn put_return_title(out: &mut Vec<u8>) -> Result<(), Memory>
-    ensures { OnOk result (out.new.items ≡ out.old.items ++ model.return_title) }
+    ensures { Puts result out.old out.new model.return_title }
 {
     put(out, "and back to block ")
 }
 
 /// Where a round comes back to, if it has a block, and the end of the line.
 fn put_way_back(out: &mut Vec<u8>, first: Option<u16>) -> Result<(), Memory>
-    ensures { OnOk result (out.new.items ≡ out.old.items ++ model.way_back_to first) }
+    ensures { Puts result out.old out.new (model.way_back_to first) }
 {
     match first {
         Some(first) => {
@@ -89,7 +90,7 @@ fn put_way_back(out: &mut Vec<u8>, first: Option<u16>) -> Result<(), Memory>
 /// What stands before the blocks of a round.
 #[tactic(auto, unfolding(crate::specs::Rounds::round_title))]
 fn put_round_title(out: &mut Vec<u8>) -> Result<(), Memory>
-    ensures { OnOk result (out.new.items ≡ out.old.items ++ model.round_title) }
+    ensures { Puts result out.old out.new model.round_title }
 {
     put(out, "known: this round may take no time: ")
 }
@@ -97,7 +98,7 @@ fn put_round_title(out: &mut Vec<u8>) -> Result<(), Memory>
 /// A round, in a line.
 #[tactic(auto, unfolding(crate::specs::Rounds::round_line))]
 fn put_round_line(out: &mut Vec<u8>, round: &[u16]) -> Result<(), Memory>
-    ensures { OnOk result (out.new.items ≡ out.old.items ++ model.round_line round.now) }
+    ensures { Puts result out.old out.new (model.round_line round.now) }
 {
     put_round_title(out)?;
     put_enumeration(out, first_blocks(round))?;
@@ -107,8 +108,7 @@ fn put_round_line(out: &mut Vec<u8>, round: &[u16]) -> Result<(), Memory>
 
 /// And below it the lines of its blocks that are told.
 fn put_shown_round(out: &mut Vec<u8>, text: &Text<'_>, round: &[u16]) -> Result<(), Memory>
-    ensures { OnOk result (out.new.items
-        ≡ out.old.items ++ model.shown_round (map (λ l. l.now) text.now.lines.now) text.now.blocks.now round.now) }
+    ensures { Puts result out.old out.new (model.round_in text.now round.now) }
 {
     put_round_line(out, round)?;
     put_blocks(out, text, first_blocks(round))

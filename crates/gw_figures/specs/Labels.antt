@@ -1,6 +1,7 @@
 -- The figures of a model: what they are called, in the order of its parts.
-use Rattle.std.specs.Prelude.{◌≡◌, Result, OnOk, ℕ, zero, suc, ◌+◌, ◌-◌, List, [], ◌∷◌, ◌++◌, map, codes, Bool, true, false, ℤ, pos, ◌+ℤ◌, ◌==◌, if◌then◌else◌}
+use Rattle.std.specs.Prelude.{◌≡◌, Result, OnOk, Vec, ℕ, zero, suc, ◌+◌, ◌-◌, List, [], ◌∷◌, ◌++◌, map, codes, Bool, true, false, ℤ, pos, ◌+ℤ◌, ◌==◌, if◌then◌else◌}
 use Rattle.std.specs.Fmt.{decimal, signed_decimal}
+use Rattle.std.specs.Global.{Global}
 use Rattle.gw_blocks.specs.declared.parts.Block.{Block}
 use Rattle.gw_blocks.specs.Grammar.{block_word}
 use Rattle.gw_object.specs.declared.parts.Entity.{Entity}
@@ -29,8 +30,8 @@ abbrev pub labels : List Figure → List Label
 labels figures = map label_of figures
 
 -- where all went well, figures of these labels are added to others
-abbrev pub AddsFigures : {E : Type 0} → Result (Unit {0}) E → List Figure → List Figure → List Label → Type 0
-AddsFigures result old new added = OnOk result (labels new ≡ labels old ++ added)
+abbrev pub AddsFigures : {E : Type 0} → Result (Unit {0}) E → Vec Figure Global → Vec Figure Global → List Label → Type 0
+AddsFigures result old new added = OnOk result (labels new.items ≡ labels old.items ++ added)
 
 -- a number that is always told; one that is told only among all; an average; and how many are there; each
 -- by what it tells of and its own name
@@ -110,12 +111,16 @@ class_labels t front i zero = []
 class_labels t front i (suc left) =
     plain front (class_text t i left) ∷ class_labels t front (i + 1) left
 
+-- of all classes of a table
+abbrev pub all_class_labels : Table → List ℕ → List Label
+all_class_labels t front = class_labels t front 0 t.classes
+
 -- of a table
 abbrev pub table_labels : Table → List ℕ → List Label
 table_labels t front =
     plain front (codes "COUNT") ∷ plain front (codes "SUM") ∷ mean front (codes "MEAN")
     ∷ plain front (codes "P50") ∷ plain front (codes "P90") ∷ plain front (codes "P95")
-    ∷ class_labels t front 0 t.classes
+    ∷ all_class_labels t front
 
 -- of an entity of this kind and this name
 abbrev pub kind_labels : Kind → List ℕ → List Label

@@ -1,6 +1,7 @@
 -- A window of a run: the numbers of the states with which it begins and ends, and what the run did in
 -- between.
-use Rattle.std.specs.Prelude.{◌≡◌, Result, OnOk, ◌++◌, ℕ, ◌-◌, ◌*◌, ◌^◌, Bool, ℤ, pos, ◌*ℤ◌, List, map, length, nat_le, ◌==◌, ◌||◌, unsigned_abs, slice_index_or, Option, None, Some, if◌then◌else◌}
+use Rattle.std.specs.Prelude.{◌≡◌, Result, OnOk, Vec, ◌++◌, ℕ, ◌-◌, ◌*◌, ◌^◌, Bool, ℤ, pos, ◌*ℤ◌, List, map, length, nat_le, ◌==◌, ◌||◌, unsigned_abs, slice_index_or, Option, None, Some, if◌then◌else◌}
+use Rattle.std.specs.Global.{Global}
 use Rattle.std.specs.List.{range_with_len}
 use Rattle.gw_statistics.specs.Rounding.{nearest, nearest_of}
 use Rattle.gw_report.specs.Figures.{Figures}
@@ -21,8 +22,8 @@ abbrev pub passed : Span → ℕ
 passed w = unsigned_abs w.end.clock - unsigned_abs w.start.clock
 
 -- where all went well, values are added to others
-abbrev pub AddsValues : {E : Type 0} → Result (Unit {0}) E → List (Option ℤ) → List (Option ℤ) → List (Option ℤ) → Type 0
-AddsValues result old new added = OnOk result (new ≡ old ++ added)
+abbrev pub AddsValues : {E : Type 0} → Result (Unit {0}) E → Vec (Option ℤ) Global → Vec (Option ℤ) Global → List (Option ℤ) → Type 0
+AddsValues result old new added = OnOk result (new.items ≡ old.items ++ added)
 
 -- IN MILLIONTHS
 

@@ -22,7 +22,7 @@ fn front_of(alloc: Global, word: &str, name: &[u8]) -> Result<Vec<u8>, Memory>
 }
 
 fn put_facility(alloc: Global, out: &mut Vec<Figure>, front: &[u8]) -> Result<(), Memory>
-    ensures { AddsFigures result out.old.items out.new.items (model.facility_labels front.now) }
+    ensures { AddsFigures result out.old out.new (model.facility_labels front.now) }
 {
     put_plain(alloc, out, front, "ENTRIES")?;
     put_content(alloc, out, front, "WAIT")?;
@@ -31,7 +31,7 @@ fn put_facility(alloc: Global, out: &mut Vec<Figure>, front: &[u8]) -> Result<()
 }
 
 fn put_contents(alloc: Global, out: &mut Vec<Figure>, front: &[u8]) -> Result<(), Memory>
-    ensures { AddsFigures result out.old.items out.new.items (model.contents_labels front.now) }
+    ensures { AddsFigures result out.old out.new (model.contents_labels front.now) }
 {
     put_content(alloc, out, front, "CONTENT")?;
     put_plain(alloc, out, front, "MAX")?;
@@ -39,14 +39,14 @@ fn put_contents(alloc: Global, out: &mut Vec<Figure>, front: &[u8]) -> Result<()
 }
 
 fn put_stay(alloc: Global, out: &mut Vec<Figure>, front: &[u8]) -> Result<(), Memory>
-    ensures { AddsFigures result out.old.items out.new.items (model.stay_labels front.now) }
+    ensures { AddsFigures result out.old out.new (model.stay_labels front.now) }
 {
     put_mean(alloc, out, front, "AVG")?;
     put_mean(alloc, out, front, "TIME")
 }
 
 fn put_storage(alloc: Global, out: &mut Vec<Figure>, front: &[u8]) -> Result<(), Memory>
-    ensures { AddsFigures result out.old.items out.new.items (model.storage_labels front.now) }
+    ensures { AddsFigures result out.old out.new (model.storage_labels front.now) }
 {
     put_contents(alloc, out, front)?;
     put_content(alloc, out, front, "WAIT")?;
@@ -54,7 +54,7 @@ fn put_storage(alloc: Global, out: &mut Vec<Figure>, front: &[u8]) -> Result<(),
 }
 
 fn put_queue(alloc: Global, out: &mut Vec<Figure>, front: &[u8]) -> Result<(), Memory>
-    ensures { AddsFigures result out.old.items out.new.items (model.queue_labels front.now) }
+    ensures { AddsFigures result out.old out.new (model.queue_labels front.now) }
 {
     put_contents(alloc, out, front)?;
     put_stay(alloc, out, front)
@@ -96,8 +96,8 @@ fn put_classes(
     front: &[u8],
     table: &Table,
 ) -> Result<(), Memory>
-    ensures { AddsFigures result out.old.items out.new.items
-        (model.class_labels table.now front.now 0 table.now.classes) }
+    ensures { AddsFigures result out.old out.new
+        (model.all_class_labels table.now front.now) }
 {
     let classes = u64::from(table.classes);
     for class in 0..classes {
@@ -113,7 +113,7 @@ fn put_table(
     front: &[u8],
     table: &Table,
 ) -> Result<(), Memory>
-    ensures { AddsFigures result out.old.items out.new.items
+    ensures { AddsFigures result out.old out.new
         (model.table_labels table.now front.now) }
 {
     put_plain(alloc, out, front, "COUNT")?;
@@ -131,7 +131,7 @@ pub(crate) fn put_entity(
     out: &mut Vec<Figure>,
     entity: &Entity,
 ) -> Result<(), Memory>
-    ensures { AddsFigures result out.old.items out.new.items
+    ensures { AddsFigures result out.old out.new
         (model.kind_labels entity.now.kind entity.now.name) }
 {
     let name = entity.name.as_slice();

@@ -25,7 +25,7 @@ fn put_facility(
     window: &Window<'_>,
     number: usize,
 ) -> Result<(), Memory>
-    ensures { AddsValues result out.old.items out.new.items
+    ensures { AddsValues result out.old out.new
         (model.facility_values (span_of window.now) number) }
 {
     let before = window.start.entity(number).facility;
@@ -44,7 +44,7 @@ fn put_contents(
     before: Contents,
     after: Contents,
 ) -> Result<(), Memory>
-    ensures { AddsValues result out.old.items out.new.items
+    ensures { AddsValues result out.old out.new
         (model.contents_values (span_of window.now) before after) }
 {
     out.push(units(after.content))?;
@@ -59,7 +59,7 @@ fn put_stay(
     before: Contents,
     after: Contents,
 ) -> Result<(), Memory>
-    ensures { AddsValues result out.old.items out.new.items
+    ensures { AddsValues result out.old out.new
         (model.stay_values (span_of window.now) before after) }
 {
     let time_sum = after.time_sum.saturating_sub(before.time_sum);
@@ -73,7 +73,7 @@ fn put_storage(
     window: &Window<'_>,
     number: usize,
 ) -> Result<(), Memory>
-    ensures { AddsValues result out.old.items out.new.items
+    ensures { AddsValues result out.old out.new
         (model.storage_values (span_of window.now) number) }
 {
     let before = window.start.entity(number).storage.contents;
@@ -84,7 +84,7 @@ fn put_storage(
 }
 
 fn put_queue(out: &mut Vec<Option<i128>>, window: &Window<'_>, number: usize) -> Result<(), Memory>
-    ensures { AddsValues result out.old.items out.new.items
+    ensures { AddsValues result out.old out.new
         (model.queue_values (span_of window.now) number) }
 {
     let before = window.start.entity(number).queue;
@@ -95,7 +95,7 @@ fn put_queue(out: &mut Vec<Option<i128>>, window: &Window<'_>, number: usize) ->
 
 /// Which part of so many values each class has.
 fn put_shares(out: &mut Vec<Option<i128>>, count: u64, classes: &[u64]) -> Result<(), Memory>
-    ensures { AddsValues result out.old.items out.new.items (model.shares count classes.now) }
+    ensures { AddsValues result out.old out.new (model.shares count classes.now) }
 {
     for values in classes {
         out.push(quotient(u128::from(*values), count))?;
@@ -117,7 +117,7 @@ fn put_sums(
     before: TableFigures,
     after: TableFigures,
 ) -> Result<(), Memory>
-    ensures { AddsValues result out.old.items out.new.items (model.sum_values before after) }
+    ensures { AddsValues result out.old out.new (model.sum_values before after) }
 {
     let count = after.count.saturating_sub(before.count);
     let sum = added(before, after);
@@ -134,7 +134,7 @@ fn put_classes(
     count: u64,
     classes: &[u64],
 ) -> Result<(), Memory>
-    ensures { AddsValues result out.old.items out.new.items
+    ensures { AddsValues result out.old out.new
         (model.classes_values table.now count classes.now) }
 {
     out.push(percentile(table, 50, count, classes))?;
@@ -150,7 +150,7 @@ fn put_table(
     number: usize,
     table: &Table,
 ) -> Result<(), Memory>
-    ensures { AddsValues result out.old.items out.new.items
+    ensures { AddsValues result out.old out.new
         (model.table_values table.now (span_of window.now) number) }
 {
     let before = window.start.entity(number).table;
@@ -177,7 +177,7 @@ pub(crate) fn put_entity(
     number: usize,
     kind: &Kind,
 ) -> Result<(), Memory>
-    ensures { AddsValues result out.old.items out.new.items
+    ensures { AddsValues result out.old out.new
         (model.kind_values kind.now (span_of window.now) number) }
 {
     match kind {

@@ -36,7 +36,7 @@ pub(crate) fn put_named(
     front: &[u8],
     what: &[u8],
 ) -> Result<(), Memory>
-    ensures { AddsFigures result out.old.items out.new.items (plain front.now what.now ∷ []) }
+    ensures { AddsFigures result out.old out.new (plain front.now what.now ∷ []) }
 {
     let name = name_of(alloc, front, what)?;
     out.push(Figure {
@@ -55,7 +55,7 @@ pub(crate) fn put_plain(
     front: &[u8],
     what: &str,
 ) -> Result<(), Memory>
-    ensures { AddsFigures result out.old.items out.new.items (plain front.now what.now ∷ []) }
+    ensures { AddsFigures result out.old out.new (plain front.now what.now ∷ []) }
 {
     put_named(alloc, out, front, what.as_bytes())
 }
@@ -67,7 +67,7 @@ pub(crate) fn put_detail(
     front: &[u8],
     what: &str,
 ) -> Result<(), Memory>
-    ensures { AddsFigures result out.old.items out.new.items (detail front.now what.now ∷ []) }
+    ensures { AddsFigures result out.old out.new (detail front.now what.now ∷ []) }
 {
     let name = name_of(alloc, front, what.as_bytes())?;
     out.push(Figure {
@@ -86,7 +86,7 @@ pub(crate) fn put_mean(
     front: &[u8],
     what: &str,
 ) -> Result<(), Memory>
-    ensures { AddsFigures result out.old.items out.new.items (mean front.now what.now ∷ []) }
+    ensures { AddsFigures result out.old out.new (mean front.now what.now ∷ []) }
 {
     let name = name_of(alloc, front, what.as_bytes())?;
     out.push(Figure {
@@ -105,7 +105,7 @@ pub(crate) fn put_content(
     front: &[u8],
     what: &str,
 ) -> Result<(), Memory>
-    ensures { AddsFigures result out.old.items out.new.items (content front.now what.now ∷ []) }
+    ensures { AddsFigures result out.old out.new (content front.now what.now ∷ []) }
 {
     let name = name_of(alloc, front, what.as_bytes())?;
     out.push(Figure {

@@ -14,13 +14,13 @@ use std::alloc::Global;
 
 /// Adds a figure of how the run ended.
 fn put_of_end(alloc: Global, out: &mut Vec<Figure>, what: &str) -> Result<(), Memory>
-    ensures { AddsFigures result out.old.items out.new.items (plain [] what.now ∷ []) }
+    ensures { AddsFigures result out.old out.new (plain [] what.now ∷ []) }
 {
     put_plain(alloc, out, &[], what)
 }
 
 fn put_end(alloc: Global, out: &mut Vec<Figure>) -> Result<(), Memory>
-    ensures { AddsFigures result out.old.items out.new.items model.end_labels }
+    ensures { AddsFigures result out.old out.new model.end_labels }
 {
     put_of_end(alloc, out, "CLOCK")?;
     put_of_end(alloc, out, "STEPS")?;
@@ -48,7 +48,7 @@ fn put_block(
     block: &Block,
 ) -> Result<(), Memory>
     requires { place < 65535 }
-    ensures { AddsFigures result out.old.items out.new.items (model.block_labels place block.now) }
+    ensures { AddsFigures result out.old out.new (model.block_labels place block.now) }
 {
     let front = front_of(alloc, place, block)?;
     put_detail(alloc, out, &front, "ENTRIES")?;
@@ -59,7 +59,7 @@ fn put_block(
 #[tactic(auto, unfolding(crate::specs::Labels::blocks_labels))]
 fn put_blocks(alloc: Global, out: &mut Vec<Figure>, blocks: &[Block]) -> Result<(), Memory>
     requires { length blocks.now ≤ 65535 }
-    ensures { AddsFigures result out.old.items out.new.items (model.blocks_labels 0 blocks.now) }
+    ensures { AddsFigures result out.old out.new (model.blocks_labels 0 blocks.now) }
 {
     for i in 0..blocks.len() {
         put_block(alloc, out, i, &blocks[i])?;
@@ -70,7 +70,7 @@ fn put_blocks(alloc: Global, out: &mut Vec<Figure>, blocks: &[Block]) -> Result<
 /// The figures of each entity, in order.
 #[tactic(auto, unfolding(crate::specs::Labels::entities_labels))]
 fn put_entities(alloc: Global, out: &mut Vec<Figure>, entities: &[Entity]) -> Result<(), Memory>
-    ensures { AddsFigures result out.old.items out.new.items (model.entities_labels entities.now) }
+    ensures { AddsFigures result out.old out.new (model.entities_labels entities.now) }
 {
     for i in 0..entities.len() {
         put_entity(alloc, out, &entities[i])?;

@@ -11,7 +11,7 @@ use gw_object::{Entity, Memory, Parts};
 use std::alloc::Global;
 
 fn put_end(out: &mut Vec<Option<i128>>, window: &Window<'_>) -> Result<(), Memory>
-    ensures { AddsValues result out.old.items out.new.items
+    ensures { AddsValues result out.old out.new
         (model.end_values (span_of window.now)) }
 {
     out.push(units(passed(window)))?;
@@ -22,7 +22,7 @@ fn put_end(out: &mut Vec<Option<i128>>, window: &Window<'_>) -> Result<(), Memor
 }
 
 fn put_block(out: &mut Vec<Option<i128>>, window: &Window<'_>, place: usize) -> Result<(), Memory>
-    ensures { AddsValues result out.old.items out.new.items
+    ensures { AddsValues result out.old out.new
         (model.block_values (span_of window.now) place) }
 {
     let before = window.start.block(place);
@@ -35,7 +35,7 @@ fn put_block(out: &mut Vec<Option<i128>>, window: &Window<'_>, place: usize) -> 
 /// Those of so many blocks, in order.
 #[tactic(auto, unfolding(crate::specs::Values::blocks_values))]
 fn put_blocks(out: &mut Vec<Option<i128>>, window: &Window<'_>, blocks: usize) -> Result<(), Memory>
-    ensures { AddsValues result out.old.items out.new.items
+    ensures { AddsValues result out.old out.new
         (model.blocks_values (span_of window.now) 0 blocks) }
 {
     for i in 0..blocks {
@@ -52,7 +52,7 @@ fn put_entities(
     window: &Window<'_>,
     entities: &[Entity],
 ) -> Result<(), Memory>
-    ensures { AddsValues result out.old.items out.new.items
+    ensures { AddsValues result out.old out.new
         (model.entities_values (span_of window.now) 0 entities.now) }
 {
     for i in 0..entities.len() {

@@ -1,7 +1,6 @@
 //! The checks of flow, in order.
 
 ghost use Rattle.std.specs.Prelude.{◌≡◌, ◌≤◌, All, length};
-ghost use Rattle.gw_blocks.specs.declared.parts.Block.TheVariants as blocks;
 ghost use Rattle.gw_object.specs.Grammar.{AreAscending, HasSpelling};
 ghost use Rattle.gw_rules.specs.Pass.{KindsPass};
 ghost use Rattle.gw_rules.specs.Rows.{HasRoom};
@@ -10,7 +9,7 @@ ghost use Rattle.gw_rules.specs.Flow.{MayFind};
 ghost use Rattle.gw_rules.specs.Seen.{HaveNext};
 ghost use Rattle.gw_flow.specs.Known.{known};
 ghost use Rattle.gw_flow.specs.ViewedTable.{table_viewed, HaveRoom, checks_by, checks_in_row};
-ghost use Rattle.gw_flow.specs.ReturnEdges.{PassesBy, GoesBy};
+ghost use Rattle.gw_flow.specs.ReturnEdges.{PassesBy, GoesBy, way_back_checks};
 
 use crate::abstract_state::AbsState;
 use crate::flow::{OUT_OF_MEMORY, passed};
@@ -62,8 +61,7 @@ fn check_way_back<'r>(
     requires room { HasRoom (known table.returns.now this.state.now) }
     requires held { GoesBy table parameter this }
     requires pass { All (PassesBy table) earlier.old.items }
-    ensures found { MayFind result (checks_by parts.now table.entry number
-        (blocks.TransferByParameter parameter) this.entry.state.now) }
+    ensures found { MayFind result (way_back_checks parts.now table.entry number parameter this.entry) }
     ensures pass { All (PassesBy table.entry) earlier.new.items }
 {
     if is_like_latest(table, this, earlier) {

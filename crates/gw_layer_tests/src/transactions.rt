@@ -1,8 +1,8 @@
 //! Transactions: each call once, on three of them whose numbers and counts are worked out by hand.
 
-ghost use Rattle.std.specs.Prelude.{◌≡◌, ◌≤◌, ◌<◌, ◌+◌, ◌^◌, length, None, Some, IfOk};
-ghost use Rattle.gw_num.specs.Table.{put};
-ghost use Rattle.gw_transactions.specs.Transactions.{as_made, Holds, KeepsHandles};
+ghost use Rattle.std.specs.Prelude.{◌≡◌, ◌≤◌, ◌<◌, ◌+◌, ◌^◌, length, IfOk};
+ghost use Rattle.gw_layer_tests.specs.Transactions.{put_made};
+ghost use Rattle.gw_transactions.specs.Transactions.{Holds, KeepsHandles};
 
 use gw_members::{Memory, Tx};
 use gw_transactions::{Transaction, Transactions};
@@ -13,8 +13,8 @@ pub(crate) fn add(transactions: &mut Transactions, transaction: Transaction) -> 
     requires block { transaction.current ≤ 4096 }
     requires few { length transactions.old.txs < 2 ^ 62 }
     ensures number { IfOk result (λ tx. tx.number ≡ length transactions.old.txs) }
-    ensures txs { let made = Some (as_made transaction) in
-        IfOk result (λ tx. transactions.new.txs ≡ put None transactions.old.txs tx.number made) }
+    ensures txs { IfOk result (λ tx.
+        transactions.new.txs ≡ put_made tx.number transaction transactions.old.txs) }
     ensures one { IfOk result (λ _. length transactions.new.txs ≡ length transactions.old.txs + 1) }
     ensures held { IfOk result (λ tx. Holds transactions.new tx) }
     ensures handles { KeepsHandles transactions.old transactions.new }

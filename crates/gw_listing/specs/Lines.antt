@@ -1,5 +1,6 @@
 -- Lines that begin as they should, one behind the other.
-use Rattle.std.specs.Prelude.{◌≡◌, ℕ, zero, suc, List, [], ◌∷◌, ◌++◌, codes, Bool, true, ◌==◌, not}
+use Rattle.std.specs.Prelude.{◌≡◌, ℕ, zero, suc, List, [], ◌∷◌, ◌++◌, codes, Bool, true, ◌==◌, not, Result, OnOk, Vec}
+use Rattle.std.specs.Global.{Global}
 use Rattle.std.specs.List.{list_all}
 
 -- whether no line ends here
@@ -32,6 +33,10 @@ pub record AddsLines (openings : List Opening) (old new : List ℕ) : Type 0 whe
   pub lines : List ℕ
   pub are : AreLines openings lines
   pub added : new ≡ old ++ lines
+
+-- unless there is no memory for them, such lines come behind what there is
+abbrev pub PutsLines : {A E : Type 0} → Result A E → Vec ℕ Global → Vec ℕ Global → List Opening → Type 0
+PutsLines result old new openings = OnOk result (AddsLines openings old.items new.items)
 
 -- words and the end of a line are added to a text
 pub record EndsLine (old new : List ℕ) : Type 0 where

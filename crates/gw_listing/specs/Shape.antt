@@ -77,6 +77,10 @@ code_openings (Some p) = takes_opening p.arguments ++ numbered instruction_openi
 abbrev pub procedure_openings : List ℕ → List Procedure → ℕ → List Opening
 procedure_openings lines procedures i = (procedure_head i (slice_get lines i) ∷ []) ++ code_openings (slice_get procedures i)
 
+-- all procedures
+abbrev pub procedures_openings : List ℕ → List Procedure → List Opening
+procedures_openings lines procedures = numbered (procedure_openings lines procedures) (length procedures)
+
 -- a return row: its number
 abbrev pub return_front : ℕ → List ℕ
 return_front i = codes "RETURN " ++ decimal i ++ codes " blocks"
@@ -92,6 +96,10 @@ version_openings version = if version == 1 then [] else Whole (codes "VERSION " 
 abbrev pub start_opening : ℕ → List Opening
 start_opening count = Whole (codes "START " ++ decimal count) ∷ []
 
+-- both
+abbrev pub first_openings : Parts → List Opening
+first_openings p = version_openings p.version ++ start_opening p.count
+
 -- all lines of an object: its version, where it isn't 1, its termination count, its blocks, its entities, its user chains, its procedures, its return rows
 abbrev pub openings : Parts → Sites → List Opening
 openings p sites =
@@ -100,5 +108,5 @@ openings p sites =
     ++ numbered (block_opening sites.blocks p) (length p.blocks)
     ++ numbered (entity_opening sites.entities) (length p.entities)
     ++ numbered (chain_opening p.chain_weights) (length p.chain_weights)
-    ++ numbered (procedure_openings sites.procedures p.procedures) (length p.procedures)
+    ++ procedures_openings sites.procedures p.procedures
     ++ numbered return_opening (length p.returns)

@@ -1,7 +1,8 @@
 //! Procedures, with their instructions.
 
-ghost use Rattle.std.specs.Prelude.{◌≡◌, ◌++◌, ◌∷◌, [], Some, None, slice_get, OnOk};
-ghost use Rattle.gw_listing.specs.Lines.{Front, AddsLines};
+ghost use Rattle.std.specs.Prelude.{◌∷◌, [], Some, None, slice_get};
+ghost use Rattle.gw_report.specs.Report.{Puts};
+ghost use Rattle.gw_listing.specs.Lines.{Front, PutsLines};
 ghost use Rattle.gw_listing.specs.Shape.{procedure_front, procedure_head, takes_front, takes_opening, code_openings};
 
 use crate::operands::{put_attribute, put_numbered};
@@ -97,7 +98,7 @@ fn takes_words(alloc: Global, procedure: &Procedure) -> Result<Vec<u8>, Memory> 
 
 /// What the line of what a procedure takes begins with.
 fn put_takes_front(out: &mut Vec<u8>, arguments: u8) -> Result<(), Memory>
-    ensures { OnOk result (out.new.items ≡ out.old.items ++ takes_front arguments) }
+    ensures { Puts result out.old out.new (takes_front arguments) }
 {
     put_number(out, "    arguments ", arguments)?;
     put(out, " ")
@@ -106,8 +107,7 @@ fn put_takes_front(out: &mut Vec<u8>, arguments: u8) -> Result<(), Memory>
 /// The line of what a procedure takes.
 #[tactic(auto, using(crate::proofs::Adding::fronted))]
 fn put_takes(alloc: Global, out: &mut Vec<u8>, procedure: &Procedure) -> Result<(), Memory>
-    ensures { OnOk result (AddsLines (takes_opening procedure.now.arguments)
-        out.old.items out.new.items) }
+    ensures { PutsLines result out.old out.new (takes_opening procedure.now.arguments) }
 {
     let words = takes_words(alloc, procedure)?;
     put_takes_front(out, procedure.arguments)?;
@@ -121,8 +121,7 @@ pub(crate) fn put_code(
     parts: &Parts,
     procedure: &Procedure,
 ) -> Result<(), Memory>
-    ensures { OnOk result (AddsLines (code_openings (Some procedure.now))
-        out.old.items out.new.items) }
+    ensures { PutsLines result out.old out.new (code_openings (Some procedure.now)) }
 {
     put_takes(alloc, out, procedure)?;
     let instructions = Section::Instructions(procedure.code.as_slice());
@@ -142,7 +141,7 @@ fn source(text: &[u8], number: u32) -> &[u8] {
 
 /// What the first line of a procedure of a text begins with.
 fn put_procedure_front(out: &mut Vec<u8>, number: usize, line: u32) -> Result<(), Memory>
-    ensures { OnOk result (out.new.items ≡ out.old.items ++ procedure_front number line) }
+    ensures { Puts result out.old out.new (procedure_front number line) }
 {
     put_number(out, "PROCEDURE ", number)?;
     put_number(out, " line ", line)?;
@@ -158,8 +157,7 @@ fn put_head_of_text(
     number: usize,
     line: u32,
 ) -> Result<(), Memory>
-    ensures { OnOk result (AddsLines (procedure_head number (Some line) ∷ [])
-        out.old.items out.new.items) }
+    ensures { PutsLines result out.old out.new (procedure_head number (Some line) ∷ []) }
 {
     put_procedure_front(out, number, line)?;
     end_line(alloc, out, source(text, line))
@@ -168,8 +166,7 @@ fn put_head_of_text(
 /// The first line of a procedure of an object: its number.
 #[tactic(auto, using(crate::proofs::Adding::whole))]
 fn put_head_alone(out: &mut Vec<u8>, number: usize) -> Result<(), Memory>
-    ensures { OnOk result (AddsLines (procedure_head number None ∷ [])
-        out.old.items out.new.items) }
+    ensures { PutsLines result out.old out.new (procedure_head number None ∷ []) }
 {
     put_number(out, "PROCEDURE ", number)?;
     put(out, "\n")
@@ -183,8 +180,7 @@ pub(crate) fn put_head(
     lines: &[u32],
     number: usize,
 ) -> Result<(), Memory>
-    ensures { OnOk result (AddsLines (procedure_head number (slice_get lines.now number) ∷ [])
-        out.old.items out.new.items) }
+    ensures { PutsLines result out.old out.new (procedure_head number (slice_get lines.now number) ∷ []) }
 {
     match lines.get(number) {
         Some(line) => put_head_of_text(alloc, out, text, number, *line),

@@ -1,10 +1,10 @@
 //! The lines of an object, part by part.
 
-ghost use Rattle.std.specs.Prelude.{◌≡◌, ◌++◌, ◌∷◌, [], length, slice_get, IfOk, OnOk};
+ghost use Rattle.std.specs.Prelude.{slice_get, IfOk};
 ghost use Rattle.gw_sources.specs.Sites.{sites_told};
-ghost use Rattle.gw_listing.specs.Lines.{Whole, AddsLines, numbered};
+ghost use Rattle.gw_listing.specs.Lines.{Whole, PutsLines};
 ghost use Rattle.gw_listing.specs.Listing.{IsListingOf};
-ghost use Rattle.gw_listing.specs.Shape.{procedure_openings};
+ghost use Rattle.gw_listing.specs.Shape.{procedure_openings, procedures_openings};
 ghost use Rattle.gw_listing.specs.Shape as shape;
 
 use crate::code::{put_code, put_head};
@@ -18,8 +18,7 @@ use std::alloc::Global;
 /// What a procedure takes, and its instructions, if it is there.
 #[tactic(auto, using(crate::proofs::Adding::begun))]
 fn put_code_at(alloc: Global, out: &mut Vec<u8>, parts: &Parts, number: usize) -> Result<(), Memory>
-    ensures { OnOk result (AddsLines (shape.code_openings (slice_get parts.now.procedures number))
-        out.old.items out.new.items) }
+    ensures { PutsLines result out.old out.new (shape.code_openings (slice_get parts.now.procedures number)) }
 {
     match parts.procedures.as_slice().get(number) {
         Some(procedure) => put_code(alloc, out, parts, procedure),
@@ -37,8 +36,7 @@ fn put_procedure(
     lines: &[u32],
     number: usize,
 ) -> Result<(), Memory>
-    ensures { OnOk result (AddsLines (procedure_openings lines.now parts.now.procedures number)
-        out.old.items out.new.items) }
+    ensures { PutsLines result out.old out.new (procedure_openings lines.now parts.now.procedures number) }
 {
     put_head(alloc, out, text, lines, number)?;
     put_code_at(alloc, out, parts, number)
@@ -53,9 +51,7 @@ fn put_procedures(
     text: &[u8],
     lines: &[u32],
 ) -> Result<(), Memory>
-    ensures { OnOk result (AddsLines
-        (numbered (procedure_openings lines.now parts.now.procedures) (length parts.now.procedures))
-        out.old.items out.new.items) }
+    ensures { PutsLines result out.old out.new (procedures_openings lines.now parts.now.procedures) }
 {
     for i in 0..parts.procedures.as_slice().len() {
         put_procedure(alloc, out, parts, text, lines, i)?;
@@ -66,8 +62,7 @@ fn put_procedures(
 /// The line of the version, where it isn't 1.
 #[tactic(auto, using(crate::proofs::Adding::begun, crate::proofs::Adding::whole))]
 fn put_version(out: &mut Vec<u8>, parts: &Parts) -> Result<(), Memory>
-    ensures { OnOk result (AddsLines (shape.version_openings parts.now.version)
-        out.old.items out.new.items) }
+    ensures { PutsLines result out.old out.new (shape.version_openings parts.now.version) }
 {
     if parts.version == 1 {
         return Ok(());
@@ -79,8 +74,7 @@ fn put_version(out: &mut Vec<u8>, parts: &Parts) -> Result<(), Memory>
 /// The line of the termination count.
 #[tactic(auto, using(crate::proofs::Adding::whole))]
 fn put_start(out: &mut Vec<u8>, parts: &Parts) -> Result<(), Memory>
-    ensures { OnOk result (AddsLines (shape.start_opening parts.now.count)
-        out.old.items out.new.items) }
+    ensures { PutsLines result out.old out.new (shape.start_opening parts.now.count) }
 {
     put_number(out, "START ", parts.count)?;
     put(out, "\n")
@@ -89,9 +83,7 @@ fn put_start(out: &mut Vec<u8>, parts: &Parts) -> Result<(), Memory>
 /// The line of the version, where it isn't 1, and that of the termination count.
 #[tactic(auto, using(crate::proofs::Adding::joined))]
 fn put_first_lines(out: &mut Vec<u8>, parts: &Parts) -> Result<(), Memory>
-    ensures { OnOk result (AddsLines
-        (shape.version_openings parts.now.version ++ shape.start_opening parts.now.count)
-        out.old.items out.new.items) }
+    ensures { PutsLines result out.old out.new (shape.first_openings parts.now) }
 {
     put_version(out, parts)?;
     put_start(out, parts)

@@ -1,7 +1,8 @@
 //! The parts of an object that have a line each.
 
-ghost use Rattle.std.specs.Prelude.{◌≡◌, ◌<◌, ◌++◌, OnOk};
-ghost use Rattle.gw_listing.specs.Lines.{AddsLines};
+ghost use Rattle.std.specs.Prelude.{◌≡◌, ◌<◌};
+ghost use Rattle.gw_report.specs.Report.{Puts};
+ghost use Rattle.gw_listing.specs.Lines.{PutsLines};
 ghost use Rattle.gw_listing.specs.Sections.{section_length, section_front, section_opening, section_openings};
 
 use crate::blocks::put_block;
@@ -46,8 +47,7 @@ impl Section<'_> {
     /// has them.
     fn put_front(&self, out: &mut Vec<u8>, parts: &Parts, place: usize) -> Result<(), Memory>
         requires { place < usize.MAX }
-        ensures { OnOk result (out.new.items
-            ≡ out.old.items ++ section_front parts.now self.now place) }
+        ensures { Puts result out.old out.new (section_front parts.now self.now place) }
     {
         let weights = parts.weights.as_slice();
         let chain_weights = parts.chain_weights.as_slice();
@@ -136,8 +136,7 @@ fn put_line(
     place: usize,
 ) -> Result<(), Memory>
     requires { place < usize.MAX }
-    ensures { OnOk result (AddsLines (section_opening parts.now section.now place)
-        out.old.items out.new.items) }
+    ensures { PutsLines result out.old out.new (section_opening parts.now section.now place) }
 {
     let words = words_of(alloc, parts, section, place)?;
     section.put_front(out, parts, place)?;
@@ -152,8 +151,7 @@ pub(crate) fn put_section(
     parts: &Parts,
     section: &Section<'_>,
 ) -> Result<(), Memory>
-    ensures { OnOk result (AddsLines (section_openings parts.now section.now)
-        out.old.items out.new.items) }
+    ensures { PutsLines result out.old out.new (section_openings parts.now section.now) }
 {
     for i in 0..section.count(parts) {
         put_line(alloc, out, parts, section, i)?;

@@ -1,6 +1,7 @@
 //! Pieces of a line, and its end.
 
-ghost use Rattle.std.specs.Prelude.{◌≡◌, ◌++◌, slice_get, IfOk, OnOk};
+ghost use Rattle.std.specs.Prelude.{slice_get, IfOk, OnOk};
+ghost use Rattle.gw_report.specs.Report.{Puts};
 ghost use Rattle.gw_listing.specs.Lines.{AreWords, EndsLine};
 ghost use Rattle.gw_listing.specs.Shape.{told, slope_words, slope_part};
 
@@ -28,8 +29,7 @@ pub(crate) fn put_told(
     numbers: &[u32],
     place: usize,
 ) -> Result<(), Memory>
-    ensures { OnOk result (out.new.items
-        ≡ out.old.items ++ told text.now (slice_get numbers.now place)) }
+    ensures { Puts result out.old out.new (told text.now (slice_get numbers.now place)) }
 {
     match numbers.get(place) {
         Some(number) => put_number(out, text, *number),
@@ -39,7 +39,7 @@ pub(crate) fn put_told(
 
 /// The slope of a weight, if there is one: its parameter, and what each 1 of that adds.
 fn put_slope(out: &mut Vec<u8>, slope: Option<(u8, u32)>) -> Result<(), Memory>
-    ensures { OnOk result (out.new.items ≡ out.old.items ++ slope_words slope) }
+    ensures { Puts result out.old out.new (slope_words slope) }
 {
     match slope {
         Some((parameter, growth)) => {
@@ -56,7 +56,7 @@ pub(crate) fn put_slope_at(
     slopes: &[Option<(u8, u32)>],
     place: usize,
 ) -> Result<(), Memory>
-    ensures { OnOk result (out.new.items ≡ out.old.items ++ slope_part slopes.now place) }
+    ensures { Puts result out.old out.new (slope_part slopes.now place) }
 {
     put_slope(out, slopes.get(place).copied().unwrap_or(None))
 }

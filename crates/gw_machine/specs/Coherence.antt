@@ -1,8 +1,10 @@
 -- What a machine keeps beside the state that it is in: its handles lead to the transactions of their numbers.
-use Rattle.std.specs.Prelude.{◌≡◌, ◌≢◌, ℕ, ◌<◌, ◌≤◌, ◌^◌, pos, ◌<ℤ◌, length, List, [], ◌∷◌, Option, IfSome, Some, None}
+use Rattle.std.specs.Prelude.{◌≡◌, ◌≢◌, ℕ, ℤ, ◌<◌, ◌≤◌, ◌^◌, pos, ◌<ℤ◌, length, List, [], ◌∷◌, Option, IfSome, Some, None}
 use Rattle.std.specs.List.{AllByRecursion}
 use Rattle.gw_blocks.specs.declared.parts.Block.{Block}
 use Rattle.gw_object.specs.declared.parts.Parts.{Parts}
+use Rattle.gw_members.specs.Chain.{Chain, all_behind}
+use Rattle.gw_members.specs.Members.{due_events}
 use Rattle.gw_members.specs.declared.tx.Tx.{Tx}
 use Rattle.gw_members.specs.declared.tx.Member.{Member}
 use Rattle.gw_members.specs.declared.tx.Event.{Event}
@@ -76,6 +78,11 @@ Others n m = m ≢ n
 abbrev pub ranked : Population → List Event → List Member
 ranked p [] = []
 ranked p (e ∷ es) = record { tx = e.tx; priority = priority_of p.txs e.tx.number } ∷ ranked p es
+
+-- all whose events are due at a time join a chain of members, each behind its peers
+abbrev pub DueJoin : Population → ℤ → Chain Event → Chain Member → Chain Member → Type 0
+DueJoin p time events old new =
+    new.items ≡ all_behind (λ (m : Member). m.priority) (ranked p (due_events time events.items)) old.items
 
 -- RESTING
 

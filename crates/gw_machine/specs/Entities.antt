@@ -1,5 +1,7 @@
 -- What entities become, and what may be counted of them.
-use Rattle.std.specs.Prelude.{ℕ, ◌+◌, ◌^◌, ◌≤◌, ◌<◌, length, Bool}
+use Rattle.std.specs.Prelude.{ℕ, ◌+◌, ◌^◌, ◌≤◌, ◌<◌, length, List, Bool}
+use Rattle.std.specs.Option.{option_map_or}
+use Rattle.gw_blocks.specs.declared.parts.Block.{Block}
 use Rattle.gw_blocks.specs.declared.parts.Units.{Units}
 use Rattle.gw_entities.specs.declared.contents.Contents.{Contents}
 use Rattle.gw_entities.specs.declared.facilities.Facility.{Facility}
@@ -9,8 +11,10 @@ use Rattle.gw_entities.specs.Storage.{vacant}
 use Rattle.gw_machine.specs.Configuration.{Configuration}
 use Rattle.gw_machine.specs.View.{entity_count}
 use Rattle.gw_num.specs.Table.{at}
+use Rattle.gw_step.specs.Blocks.{takes_over}
 use Rattle.gw_step.specs.Changes.{called_from, enters_and_falls, facility, put_facility, put_queue, put_storage, put_switch, queue, storage, switch}
 use Rattle.gw_step.specs.State.{State}
+use Rattle.gw_transactions.specs.Transactions.{attributes_at}
 use Rattle.gw_transactions.specs.declared.Transaction.{Transaction}
 
 -- a facility, a storage, a queue and a logic switch as this makes them, in a state
@@ -45,3 +49,7 @@ IsWithinEntries c = c.content ≤ c.entries
 -- the first of the delay list of a facility owns it at once, in its SEIZE block
 abbrev pub handed_over_to : ℕ → ℕ → Transaction → State → State
 handed_over_to f n t s = put_facility f (seized n (facility f s)) (enters_and_falls n t (called_from f n s))
+
+-- the transaction n, if it is there, owns a facility at once where its next block is its SEIZE
+abbrev pub taken_over_by : List Block → ℕ → ℕ → State → State
+taken_over_by bs f n s = option_map_or (takes_over bs f n s) (attributes_at n s.transactions) s

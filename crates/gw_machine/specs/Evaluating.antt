@@ -1,17 +1,20 @@
 -- Evaluating operands: for whom, what may be read of a machine, and what is answered.
-use Rattle.std.specs.Prelude.{ℕ, ◌≤◌, ◌^◌, ℤ, pos, ◌≤ℤ◌, sum, List, Option, Some, None, IfSome, Result, Ok, Err}
+use Rattle.std.specs.Prelude.{◌≡◌, ℕ, ◌≤◌, ◌^◌, ℤ, pos, ◌≤ℤ◌, sum, List, Option, Some, None, IfSome, Result, Ok, Err}
+use Rattle.gw_blocks.specs.declared.parts.Operand.{Operand}
+use Rattle.gw_blocks.specs.declared.parts.Spread.{Spread}
 use Rattle.gw_members.specs.declared.tx.Tx.{Tx}
+use Rattle.gw_object.specs.declared.parts.Parts.{Parts}
 use Rattle.gw_operands.specs.declared.ends.PlusEnd.{PlusEnd}
 use Rattle.gw_operands.specs.Environment.{Environment}
 use Rattle.gw_step.specs.declared.ends.End.{End}
-use Rattle.gw_operands.specs.Values.{Evaluation, Value, Fails}
+use Rattle.gw_operands.specs.Values.{Evaluation, Value, Fails, source_value, operand_value, drawn_time}
 use Rattle.gw_transactions.specs.declared.Transaction.{Transaction}
 use Rattle.gw_transactions.specs.Parameters.{no_parameters}
 use Rattle.gw_transactions.specs.Transactions.{Holds}
 use Rattle.gw_step.specs.Numbers.{AreWhole}
 use Rattle.gw_step.specs.Outcome.{Outcome, Gives, EndsBy, ◌>>=◌}
 use Rattle.gw_step.specs.State.{State}
-use Rattle.gw_step.specs.Times.{environment, parameters_of}
+use Rattle.gw_step.specs.Times.{environment, environment_of_next, parameters_of, drawn_moment}
 use Rattle.gw_machine.specs.Configuration.{Configuration}
 use Rattle.gw_machine.specs.EntityTables.{states_of}
 use Rattle.gw_machine.specs.View.{state_of, entity_count}
@@ -35,6 +38,10 @@ environment_for subject s = environment subject.number subject.priority subject.
 -- the same, on a machine
 abbrev pub environment_in : Subject → Configuration → Environment
 environment_in subject m = environment_for subject (state_of m)
+
+-- what they read on a machine for the next transaction that is to arrive, with this priority
+abbrev pub next_environment_in : ℤ → Configuration → Environment
+next_environment_in priority m = environment_of_next priority (state_of m)
 
 -- WHAT MAY BE READ
 
@@ -66,3 +73,19 @@ outcome_of (Err end) = EndsBy end
 -- a time or a moment, and where the streams are then
 abbrev pub drawn : Result ℤ End → List ℕ → Outcome (ℤ × List ℕ)
 drawn result streams = outcome_of result >>= λ value. Gives (value, streams)
+
+-- a source, where draws are below a bound, was evaluated for a subject on a machine, and moved the streams
+abbrev pub EvaluatesSource : Parts → Subject → ℕ → Operand → Configuration → Result ℤ PlusEnd → List ℕ → List ℕ → Type 0
+EvaluatesSource p subject bound source m result old new = source_value p (environment_in subject m) bound source old ≡ valued result new
+
+-- an operand was
+abbrev pub EvaluatesOperand : Parts → Subject → Operand → Configuration → Result ℤ PlusEnd → List ℕ → List ℕ → Type 0
+EvaluatesOperand p subject operand m result old new = operand_value p (environment_in subject m) operand old ≡ valued result new
+
+-- a time was, by its mean and half-range
+abbrev pub EvaluatesTime : Parts → Subject → Spread → Configuration → Result ℤ PlusEnd → List ℕ → List ℕ → Type 0
+EvaluatesTime p subject spread m result old new = drawn_time p (environment_in subject m) spread old ≡ valued result new
+
+-- the moment was that lies such a time after the clock
+abbrev pub EvaluatesMoment : Parts → Subject → Spread → Configuration → Result ℤ End → List ℕ → List ℕ → Type 0
+EvaluatesMoment p subject spread m result old new = drawn_moment p (environment_in subject m) spread m.clock old ≡ drawn result new

@@ -1,8 +1,10 @@
 -- What a call on a machine changes: all else stays.
 use Rattle.std.specs.Prelude.{◌≡◌, ℕ, ◌+◌, ◌≤◌}
 use Rattle.gw_members.specs.Lists.{LosesRoom}
+use Rattle.gw_members.specs.declared.tx.Tx.{Tx}
 use Rattle.gw_machine.specs.Configuration.{Configuration}
 use Rattle.gw_machine.specs.View.{entity_count}
+use Rattle.gw_step.specs.State.{priority_of}
 
 -- who may move now, and who waits for a later time
 abbrev pub OnlyEventsChange : Configuration → Configuration → Type 0
@@ -60,6 +62,15 @@ KeepsRoomToWait old new =
 -- the current events chain has room for at most n fewer than before
 abbrev pub LosesRoomToMove : ℕ → Configuration → Configuration → Type 0
 LosesRoomToMove n old new = old.current_events.room ≤ new.current_events.room + n
+
+-- a machine has room for at most n more transactions fewer than before that may move now
+abbrev pub LosesRoomForCopies : ℕ → Configuration → Configuration → Type 0
+LosesRoomForCopies n old new =
+    (old.transactions.room ≤ new.transactions.room + n) × (old.current_events.room ≤ new.current_events.room + n)
+
+-- a transaction keeps its priority
+abbrev pub KeepsPriority : Tx → Configuration → Configuration → Type 0
+KeepsPriority tx old new = priority_of new.transactions.txs tx.number ≡ priority_of old.transactions.txs tx.number
 
 -- there are as many entities as before
 abbrev pub HasAsManyEntities : Configuration → Configuration → Type 0

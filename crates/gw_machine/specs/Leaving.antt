@@ -1,17 +1,21 @@
 -- What a call on a machine leaves.
-use Rattle.std.specs.Prelude.{[], ◌∷◌, List, ◌≡◌, ℕ, ◌+◌, ◌≤◌, ◌<◌, sum, length, remove, slice_get, option_map, Option, Some, None, Result, Ok, Err, Bool, true, false}
+use Rattle.std.specs.Prelude.{[], ◌∷◌, List, ◌≡◌, ℕ, ℤ, ◌+◌, ◌≤◌, ◌<◌, sum, length, remove, Option, Some, None, Result, Ok, Err, IfOk, Bool, true, false}
 use Rattle.gw_assemblies.specs.declared.assemblies.Assembly.{Assembly as HeldAssembly}
-use Rattle.gw_members.specs.declared.tx.Member.{Member}
+use Rattle.gw_members.specs.Members.{tx_at}
 use Rattle.gw_members.specs.declared.tx.Tx.{Tx}
-use Rattle.gw_entities.specs.Tabulation.{Tabulation}
+use Rattle.gw_entities.specs.Tabulation.{Tabulation, tabulating}
 use Rattle.gw_num.specs.declared.arithmetic.NumFault.{NumFault}
 use Rattle.gw_num.specs.Table.{at}
 use Rattle.gw_step.specs.declared.ends.End.{End}
 use Rattle.gw_machine.specs.Configuration.{Configuration}
 use Rattle.gw_machine.specs.View.{assembly_of, lists_of, state_of}
-use Rattle.gw_step.specs.Blocks.{assembly_at}
+use Rattle.gw_object.specs.declared.parts.Parts.{Parts}
+use Rattle.gw_step.specs.Blocks.{assembly_at, first_unlinked}
+use Rattle.gw_step.specs.Changes.{enters_and_falls, put_table, table}
 use Rattle.gw_step.specs.Outcome.{Outcome, Gives, EndsBy}
-use Rattle.gw_step.specs.State.{State}
+use Rattle.gw_step.specs.Start.{nothing}
+use Rattle.gw_step.specs.State.{State, user_chain}
+use Rattle.gw_transactions.specs.declared.Transaction.{Transaction}
 
 -- WHAT STAYS
 
@@ -42,12 +46,40 @@ BecomesActive old new =
     (n : ℕ) × (ns : List ℕ) × ((lists_of old).current_events ≡ n ∷ ns)
     × (state_of new ≡ record (state_of old) { lists = record (lists_of old) { active = Some n; current_events = ns } })
 
+-- ENTRIES
+
+-- the transaction n, which is t, enters its next block, its mark time is the clock, and it falls to the block after
+abbrev pub enters_marked : ℕ → Transaction → State → State
+enters_marked n t s = enters_and_falls n (record t { mark = s.clock }) s
+
+-- the transaction n, which is t, enters its next block with this priority, and falls to the block after
+abbrev pub EntersWithPriority : ℕ → Transaction → ℤ → Configuration → Configuration → Type 0
+EntersWithPriority n t priority old new = state_of new ≡ enters_and_falls n (record t { priority = priority }) (state_of old)
+
+-- USER CHAINS
+
+-- the first member of a user chain, if there is one, leaves it to go to a block
+abbrev pub first_leaves : ℕ → ℕ → State → State
+first_leaves chain target s = first_unlinked chain target (user_chain chain s) s
+
 -- THE START
+
+-- the state in which nothing is scheduled, and a named end stands, if there is one
+abbrev pub nothing_but : Parts → ℕ → List ℕ → Option End → State
+nothing_but p count streams ended = record (nothing p count streams) { ended = ended }
 
 -- the first arrivals are scheduled; or the named end that they come to is answered, and nothing is said of the new state
 abbrev pub Schedules : Option End → Outcome State → State → Type 0
 Schedules None outcome new = outcome ≡ Gives new
 Schedules (Some end) outcome new = outcome ≡ EndsBy end
+
+-- the same for a call on a machine, unless there was no memory: the outcome is said of the state that it was in
+abbrev pub SchedulesBy : {E : Type 0} → Result (Option End) E → (State → Outcome State) → Configuration → Configuration → Type 0
+SchedulesBy result outcome old new = IfOk result (λ end. Schedules end (outcome (state_of old)) (state_of new))
+
+-- at most one more arrival is scheduled
+abbrev pub SchedulesOneAtMost : List ℕ → List ℕ → Type 0
+SchedulesOneAtMost old new = (length new ≡ length old) × (sum new ≤ sum old + 1)
 
 -- ENTITIES
 
@@ -56,11 +88,16 @@ abbrev pub Tabulates : Result (Unit {0}) NumFault → Result Tabulation NumFault
 Tabulates (Ok done) rule puts old new = (left : Tabulation) × (rule ≡ Ok left) × (new ≡ puts left)
 Tabulates (Err fault) rule puts old new = (rule ≡ Err fault) × (new ≡ old)
 
+-- the same for a call on a machine, by the rule for a value and a table
+abbrev pub TabulatesIn : Result (Unit {0}) NumFault → ℕ → ℤ → Configuration → Configuration → Type 0
+TabulatesIn result t value old new =
+    Tabulates result (tabulating value (table t (state_of old))) (λ v. put_table t v (state_of old)) (state_of old) (state_of new)
+
 -- DELAY LISTS
 
 -- the transaction at this place of the delay list of an entity, if there is one
 abbrev pub waiter_at : ℕ → ℕ → Configuration → Option Tx
-waiter_at e place m = option_map (λ (w : Member). w.tx) (slice_get (at [] m.waits.lists e) place)
+waiter_at e place m = tx_at place (at [] m.waits.lists e)
 
 -- the one to which the walk over the delay list of an entity has come, if it is not at the end
 abbrev pub waiter_come_to : ℕ → Configuration → Option Tx
@@ -74,6 +111,10 @@ LosesWaiter e place old new = at [] new.waits.lists e ≡ remove (at [] old.wait
 abbrev pub Moves : Bool → ℕ → ℕ → Configuration → Configuration → Type 0
 Moves true e place old new = LosesWaiter e place old new × (old.current_events.room ≤ new.current_events.room + 1) × (at 0 new.waits.places e ≡ place)
 Moves false e place old new = (new.waits ≡ old.waits) × (new.current_events ≡ old.current_events) × (state_of new ≡ state_of old)
+
+-- so it is with the waiter to whom the walk over the delay list of an entity had come
+abbrev pub MovesCurrent : Bool → ℕ → Configuration → Configuration → Type 0
+MovesCurrent moved e old new = Moves moved e (at 0 old.waits.places e) old new
 
 -- ASSEMBLIES AND COPIES
 

@@ -32,6 +32,10 @@ pub record IsAt (b n i : ℕ) (ws : List Want) : Type 0 where
   pub block : (at nobody ws i).block ≡ b
   pub waiting : n ≤ (at nobody ws i).waiting
 
+-- each want for this block counts fewer
+abbrev pub AllCountFewer : ℕ → ℕ → List Want → Type 0
+AllCountFewer b n ws = (i : ℕ) → i < length ws → (at nobody ws i).block ≡ b → (at nobody ws i).waiting < n
+
 -- a want was told of all entries of its block, if anybody wants to enter that
 abbrev pub IsTold : List ℕ → Want → Type 0
 IsTold entries w = 0 < w.waiting → w.entries ≡ at 0 entries w.block
@@ -45,6 +49,11 @@ abbrev pub ArePast : List ℕ → List Want → Type 0
 ArePast entries ws = (i : ℕ) → (at nobody ws i).entries ≤ at 0 entries (at nobody ws i).block
 
 -- COUNTING
+
+-- a want that counts one more was told of the entries that it was told of before, or of so many where it counted nobody
+abbrev pub KeepsEntries : ℕ → Want → Want → Type 0
+KeepsEntries entries old new =
+    (0 < old.waiting → new.entries ≡ old.entries) × ((new.entries ≡ old.entries) ⊎ (new.entries ≡ entries))
 
 -- one more is counted who wants to enter a block, which has so many entries
 pub record CountsNewcomer (block entries : ℕ) (old new : List Want) : Type 0 where

@@ -2,10 +2,10 @@
 
 ghost use Rattle.std.specs.Prelude.{◌≡◌, ◌≤◌, ◌<◌, ◌+◌, [], None, Some, pos, ◌≤ℤ◌, length, IsTrue, false};
 ghost use Rattle.std.specs.List.{AllByRecursion};
-ghost use Rattle.gw_members.specs.Chain.{all_behind, due, later};
+ghost use Rattle.gw_members.specs.Chain.{later};
 ghost use Rattle.gw_step.specs.Changes as change;
 ghost use Rattle.gw_machine.specs.View.{state_of, lists_of};
-ghost use Rattle.gw_machine.specs.Coherence.{IsHeld, ranked};
+ghost use Rattle.gw_machine.specs.Coherence.{IsHeld, DueJoin};
 ghost use Rattle.gw_machine.specs.Leaving.{BecomesBy, BecomesOnOk, BecomesActive};
 ghost use Rattle.gw_machine.specs.Frames.{LosesRoomToMove};
 
@@ -23,9 +23,7 @@ fn move_due(
 )
     requires held { AllByRecursion (IsHeld transactions.now) future_events.old.items }
     requires room { length future_events.old.items ≤ current_events.old.room }
-    ensures current { current_events.new.items ≡
-        let due_now = due (λ e. e.time) time future_events.old.items in
-        all_behind (λ m. m.priority) (ranked transactions.now due_now) current_events.old.items }
+    ensures current { DueJoin transactions.now time future_events.old current_events.old current_events.new }
     ensures future { future_events.new.items ≡ later (λ e. e.time) time future_events.old.items }
     ensures left { current_events.old.room
         ≤ current_events.new.room + length future_events.old.items }
@@ -73,10 +71,10 @@ impl Machine {
     pub fn activate_first(&mut self) -> bool
         requires nobody { self.old.active ≡ None }
         ensures first { IsTrue result → BecomesActive self.old self.new }
-        ensures none { result ≡ false → ((lists_of self.old).current_events ≡ [])
-            × (state_of self.new ≡ state_of self.old)
-            × (self.new.future_events ≡ self.old.future_events)
-            × (self.new.waits ≡ self.old.waits) }
+        ensures none { result ≡ false → (lists_of self.old).current_events ≡ [] }
+        ensures state { result ≡ false → state_of self.new ≡ state_of self.old }
+        ensures future { result ≡ false → self.new.future_events ≡ self.old.future_events }
+        ensures waits { result ≡ false → self.new.waits ≡ self.old.waits }
         ensures slots { self.new.last ≡ self.old.last }
     {
         match self.current_events.pop_first() {

@@ -1,12 +1,12 @@
 //! Copies of the active transaction.
 
-ghost use Rattle.std.specs.Prelude.{◌≡◌, ◌≤◌, ◌<◌, ◌+◌, ◌^◌, length, replicate, IfOk, OnOk};
-ghost use Rattle.gw_transactions.specs.Transactions.{Holds, kept_of};
+ghost use Rattle.std.specs.Prelude.{◌≡◌, ◌≤◌, ◌<◌, ◌+◌, ◌^◌, length, IfOk, OnOk};
+ghost use Rattle.gw_transactions.specs.Transactions.{Holds, kept_of, kept_copies};
 ghost use Rattle.gw_step.specs.Changes as model;
 ghost use Rattle.gw_machine.specs.View.{state_of};
 ghost use Rattle.gw_machine.specs.Coherence.{Carries, Every};
 ghost use Rattle.gw_machine.specs.Leaving.{HasRoomForCopies};
-ghost use Rattle.gw_machine.specs.Frames.{OnlyCopiesCome};
+ghost use Rattle.gw_machine.specs.Frames.{OnlyCopiesCome, LosesRoomForCopies};
 
 use crate::machine::Machine;
 use gw_members::{Memory, Tx};
@@ -18,8 +18,7 @@ impl Machine {
     /// It fails for want of memory.
     pub fn reserve_copies(&mut self, tx: Tx, copies: u16) -> Result<Vec<Parameters>, Memory>
         requires held { Holds self.old.transactions tx }
-        ensures parameters { IfOk result (λ all.
-            all.items ≡ replicate copies (kept_of tx.number self.new.transactions)) }
+        ensures parameters { IfOk result (λ v. v.items ≡ kept_copies copies tx.number self.new.transactions) }
         ensures state { state_of self.new ≡ state_of self.old }
         ensures room { OnOk result (HasRoomForCopies copies self.new) }
         ensures carries { Carries Every self.old.transactions self.new.transactions }
@@ -45,8 +44,7 @@ impl Machine {
         ensures same { kept_of tx.number self.new.transactions
             ≡ kept_of tx.number self.old.transactions }
         ensures made { length self.new.transactions.txs ≡ length self.old.transactions.txs + 1 }
-        ensures room { (self.old.transactions.room ≤ self.new.transactions.room + 1) ×
-            (self.old.current_events.room ≤ self.new.current_events.room + 1) }
+        ensures room { LosesRoomForCopies 1 self.old self.new }
         ensures frame { OnlyCopiesCome self.old self.new }
     {
         let mut copy = transaction;
@@ -66,8 +64,7 @@ impl Machine {
         mut parameters: Vec<Parameters>,
     )
         requires held { Holds self.old.transactions tx }
-        requires same { parameters.items
-            ≡ replicate copies (kept_of tx.number self.old.transactions) }
+        requires same { parameters.items ≡ kept_copies copies tx.number self.old.transactions }
         requires block { transaction.current ≤ 4096 }
         requires few { length self.old.transactions.txs + copies < 2 ^ 60 }
         requires room { HasRoomForCopies copies self.old }

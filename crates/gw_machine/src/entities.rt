@@ -7,14 +7,13 @@ ghost use Rattle.gw_entities.specs.Facility.{idle, is_idle, is_owned_by, seized,
 ghost use Rattle.gw_entities.specs.Queue.{joined, departed};
 ghost use Rattle.gw_entities.specs.Storage.{has_room, entered, left, entering};
 ghost use Rattle.gw_entities.specs.Table.{table_at};
-ghost use Rattle.gw_entities.specs.Tabulation.{tabulating};
 ghost use Rattle.gw_step.specs.Blocks as model;
 ghost use Rattle.gw_step.specs.Blocks.{has_to_wait, switch_after};
 ghost use Rattle.gw_step.specs.Changes.{facility, storage, queue, switch, table};
-ghost use Rattle.gw_step.specs.Changes.{put_savevalue, put_table};
+ghost use Rattle.gw_step.specs.Changes.{put_savevalue};
 ghost use Rattle.gw_machine.specs.View.{state_of, entity_count};
 ghost use Rattle.gw_machine.specs.Evaluating.{IsReadable};
-ghost use Rattle.gw_machine.specs.Leaving.{Tabulates};
+ghost use Rattle.gw_machine.specs.Leaving.{TabulatesIn};
 ghost use Rattle.gw_machine.specs.Entities.{facility_by, storage_by, queue_by, switch_by, CanCountEntries, IsWithinEntries};
 ghost use Rattle.gw_machine.specs.Frames.{HasAsManyEntities, OnlyEntitiesChange};
 
@@ -187,8 +186,7 @@ impl Machine {
     pub fn tabulate(&mut self, t: u16, value: i64) -> Result<(), NumFault>
         requires there { t < length self.old.entities.tables }
         requires few { (table_at t self.old.entities.tables).count < 2 ^ 62 }
-        ensures made { Tabulates result (tabulating value (table t (state_of self.old)))
-            (λ v. put_table t v (state_of self.old)) (state_of self.old) (state_of self.new) }
+        ensures made { TabulatesIn result t value self.old self.new }
         ensures frame { OnlyEntitiesChange self.old self.new }
         ensures others { self.new.entities ≡ record self.old.entities { tables = self.new.entities.tables } }
         ensures table { length self.new.entities.tables ≡ length self.old.entities.tables }

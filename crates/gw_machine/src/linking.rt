@@ -6,6 +6,7 @@ ghost use Rattle.gw_step.specs.State.{user_chain};
 ghost use Rattle.gw_step.specs.Blocks as model;
 ghost use Rattle.gw_machine.specs.View.{state_of, entity_count};
 ghost use Rattle.gw_machine.specs.Frames.{OnlyMembersLeave};
+ghost use Rattle.gw_machine.specs.Leaving.{first_leaves};
 
 use crate::machine::Machine;
 use gw_members::Memory;
@@ -37,9 +38,7 @@ impl Machine {
     fn unlink_first(&mut self, chain: u16, target: u16)
         requires chain { chain < entity_count self.old }
         requires room { 0 < self.old.current_events.room }
-        ensures state { state_of self.new ≡
-            model.first_unlinked chain target (user_chain chain (state_of self.old))
-            (state_of self.old) }
+        ensures state { state_of self.new ≡ first_leaves chain target (state_of self.old) }
         ensures room { self.old.current_events.room ≤ self.new.current_events.room + 1 }
         ensures frame { OnlyMembersLeave self.old self.new }
     {

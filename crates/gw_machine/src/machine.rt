@@ -11,10 +11,10 @@ ghost use Rattle.gw_step.specs.Step as steps;
 ghost use Rattle.gw_step.specs.Times.{parameters_of};
 ghost use Rattle.gw_step.specs.Turning.{turned};
 ghost use Rattle.gw_machine.specs.View.{state_of};
-ghost use Rattle.gw_machine.specs.Leaving.{BecomesBy, HasArrivedBelow};
+ghost use Rattle.gw_machine.specs.Leaving.{BecomesBy, HasArrivedBelow, enters_marked, EntersWithPriority};
 ghost use Rattle.gw_transactions.specs.Parameters.{none_of};
 ghost use Rattle.gw_machine.specs.Coherence.{Carries, Every, HasSlot};
-ghost use Rattle.gw_machine.specs.Frames.{OnlyArrivalFits, OnlyArrivalComes, OnlyEntryIsMade};
+ghost use Rattle.gw_machine.specs.Frames.{OnlyArrivalFits, OnlyArrivalComes, OnlyEntryIsMade, KeepsPriority};
 
 use crate::entity_tables::EntityTables;
 use crate::wants::Wants;
@@ -174,8 +174,7 @@ impl Machine {
         requires rank { priority_of self.old.transactions.txs tx.number ≡ transaction.priority }
         requires block { (transaction.next < length self.old.entries) × (transaction.next ≤ 4096) }
         requires few { sum self.old.entries < 2 ^ 60 }
-        ensures { let marked = record transaction { mark = self.old.clock } in
-            BecomesBy (model.enters_and_falls tx.number marked) self.old self.new }
+        ensures { BecomesBy (enters_marked tx.number transaction) self.old self.new }
     {
         let mut marked = transaction;
         marked.mark = self.clock;
@@ -189,8 +188,7 @@ impl Machine {
         requires block { (transaction.next < length self.old.entries) × (transaction.next ≤ 4096) }
         requires few { sum self.old.entries < 2 ^ 60 }
         requires found { attributes_at tx.number self.old.transactions.txs ≡ Some transaction }
-        ensures state { let raised = record transaction { priority = priority } in
-            state_of self.new ≡ model.enters_and_falls tx.number raised (state_of self.old) }
+        ensures state { EntersWithPriority tx.number transaction priority self.old self.new }
         ensures held { Holds self.new.transactions tx }
         ensures rank { priority_of self.new.transactions.txs tx.number ≡ priority }
         ensures frame { OnlyEntryIsMade self.old self.new }
@@ -250,8 +248,7 @@ impl Machine {
         ensures state { state_of self.new
             ≡ model.assigned tx.number parameter value (state_of self.old) }
         ensures held { Holds self.new.transactions tx }
-        ensures rank { priority_of self.new.transactions.txs tx.number
-            ≡ priority_of self.old.transactions.txs tx.number }
+        ensures rank { KeepsPriority tx self.old self.new }
         ensures frame { self.new ≡ record self.old { transactions = self.new.transactions } }
     {
         self.transactions.assign(tx, parameter, value);

@@ -1,16 +1,16 @@
 //! The state before the first step.
 
-ghost use Rattle.std.specs.Prelude.{◌≡◌, Some, ◌≤◌, ◌<◌, ◌+◌, ◌^◌, length, sum, replicate, IfOk, OnOk};
+ghost use Rattle.std.specs.Prelude.{◌≡◌, Some, ◌≤◌, ◌<◌, ◌+◌, ◌^◌, length, replicate, IfOk, OnOk};
 ghost use Rattle.gw_object.specs.Grammar.{HasSpelling};
 ghost use Rattle.gw_rules.specs.Kinds.{block_at};
 ghost use Rattle.gw_rules.specs.Accepted.{Checked};
 ghost use Rattle.gw_step.specs.Operands.{BlocksFit, MayDraw};
 ghost use Rattle.gw_step.specs.Start as model;
-ghost use Rattle.gw_step.specs.Times.{environment_of_next};
+ghost use Rattle.gw_step.specs.Start.{first_arrivals};
 ghost use Rattle.gw_machine.specs.View.{state_of};
-ghost use Rattle.gw_machine.specs.Evaluating.{IsReadable, drawn};
+ghost use Rattle.gw_machine.specs.Evaluating.{IsReadable, drawn, next_environment_in};
 ghost use Rattle.gw_machine.specs.Coherence.{IsOf};
-ghost use Rattle.gw_machine.specs.Leaving.{Schedules, HasArrivedBelow};
+ghost use Rattle.gw_machine.specs.Leaving.{HasArrivedBelow, SchedulesBy, SchedulesOneAtMost, nothing_but};
 ghost use Rattle.gw_machine.specs.Slots.{greatest_set};
 
 use crate::entity_tables::EntityTables;
@@ -48,8 +48,7 @@ impl Machine {
     ) -> Result<Machine, Memory>
         requires few { count ≤ 2 ^ 40 }
         requires slots { greatest_set object.now.blocks ≤ 64 }
-        ensures state { let nothing = model.nothing object.now count streams in
-            IfOk result (λ m. state_of m ≡ record nothing { ended = ended }) }
+        ensures state { IfOk result (λ m. state_of m ≡ nothing_but object.now count streams ended) }
         ensures slots { IfOk result (λ m. m.last ≡ greatest_set object.now.blocks) }
         ensures readable { IfOk result IsReadable }
     {
@@ -92,8 +91,7 @@ impl Machine {
     ) -> Result<i64, End>
         requires own { IsOf verified.now self.now }
         requires readable { IsReadable self.now }
-        requires interval { let next = environment_of_next g.now.priority (state_of self.now) in
-            MayDraw verified.now next g.now.interval }
+        requires interval { MayDraw verified.now (next_environment_in g.now.priority self.now) g.now.interval }
         requires streams { streams.old ≡ self.now.streams }
         ensures { model.first_moment verified.now g.now (state_of self.now) g.now.first
             ≡ drawn result streams.new }
@@ -122,13 +120,10 @@ impl Machine {
         requires there { block_at verified.now.blocks number ≡ Some block.now }
         requires block { number < length self.old.scheduled }
         requires few { HasArrivedBelow (2 ^ 60) self.old }
-        ensures made { IfOk result (λ end. Schedules end
-            (model.first_arrival verified.now number block.now (state_of self.old))
-            (state_of self.new)) }
+        ensures made { SchedulesBy result (model.first_arrival verified.now number block.now) self.old self.new }
         ensures readable { OnOk result (IsReadable self.new) }
         ensures entities { OnOk result (self.new.entities ≡ self.old.entities) }
-        ensures scheduled { OnOk result ((length self.new.scheduled ≡ length self.old.scheduled) ×
-            (sum self.new.scheduled ≤ sum self.old.scheduled + 1)) }
+        ensures scheduled { OnOk result (SchedulesOneAtMost self.old.scheduled self.new.scheduled) }
         ensures made_by { OnOk result
             (length self.new.transactions.txs ≤ length self.old.transactions.txs + 1) }
         ensures slots { OnOk result (self.new.last ≡ self.old.last) }
@@ -156,9 +151,7 @@ impl Machine {
         requires few_blocks { length verified.now.blocks ≤ 4096 }
         requires blocks { length self.old.scheduled ≡ length verified.now.blocks + 1 }
         requires few { HasArrivedBelow (2 ^ 50) self.old }
-        ensures made { IfOk result (λ end. Schedules end
-            (model.first_arrivals verified.now 1 verified.now.blocks (state_of self.old))
-            (state_of self.new)) }
+        ensures made { SchedulesBy result (first_arrivals verified.now 1 verified.now.blocks) self.old self.new }
         ensures slots { OnOk result (self.new.last ≡ self.old.last) }
     {
         let blocks = verified.object().parts().blocks.as_slice();

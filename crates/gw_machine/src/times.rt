@@ -2,11 +2,10 @@
 
 ghost use Rattle.std.specs.Prelude.{◌≡◌, ◌+◌, pos, Ok};
 ghost use Rattle.gw_num.specs.Generator as generator;
-ghost use Rattle.gw_operands.specs.Values as values;
 ghost use Rattle.gw_step.specs.Operands.{MayDraw};
 ghost use Rattle.gw_step.specs.Times as model;
 ghost use Rattle.gw_machine.specs.Coherence.{IsOf};
-ghost use Rattle.gw_machine.specs.Evaluating.{CanEvaluate, valued, outcome_of, drawn, environment_in};
+ghost use Rattle.gw_machine.specs.Evaluating.{CanEvaluate, outcome_of, environment_in, EvaluatesTime, EvaluatesMoment};
 ghost use Rattle.gw_machine.specs.Spans.{DrawsMoment};
 
 use crate::ends::{end_by, end_by_fault};
@@ -79,8 +78,7 @@ impl Machine {
         requires own { IsOf verified.now self.now }
         requires subject { CanEvaluate self.now subject }
         requires spread { MayDraw verified.now (environment_in subject self.now) spread }
-        ensures { values.drawn_time verified.now (environment_in subject self.now) spread
-            streams.old ≡ valued result streams.new }
+        ensures { EvaluatesTime verified.now subject spread self.now result streams.old streams.new }
     {
         let mean = self.value(verified, subject, spread.mean, streams)?;
         let half = self.value(verified, subject, spread.half, streams)?;
@@ -118,8 +116,7 @@ impl Machine {
         requires own { IsOf verified.now self.now }
         requires subject { CanEvaluate self.now subject }
         requires spread { MayDraw verified.now (environment_in subject self.now) spread }
-        ensures { model.drawn_moment verified.now (environment_in subject self.now) spread
-            self.now.clock streams.old ≡ drawn result streams.new }
+        ensures { EvaluatesMoment verified.now subject spread self.now result streams.old streams.new }
     {
         match self.drawn_time(verified, subject, spread, streams) {
             Ok(time) => moment_after(self.clock, time),

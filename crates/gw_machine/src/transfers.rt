@@ -1,7 +1,7 @@
 //! Hand-over of facilities, and admission to storages.
 
-ghost use Rattle.std.specs.Prelude.{MatchOption, ◌⊎◌, [], ◌≡◌, ◌≤◌, ◌<◌, ◌+◌, ◌^◌, Some, None, true, false, sum, length};
-ghost use Rattle.std.specs.Option.{option_map_or, option_copied};
+ghost use Rattle.std.specs.Prelude.{MatchOption, [], ◌≡◌, ◌≤◌, ◌<◌, ◌+◌, ◌^◌, Some, true, false, sum, length};
+ghost use Rattle.std.specs.Option.{option_copied};
 ghost use Rattle.gw_num.specs.Table.{at};
 ghost use Rattle.gw_entities.specs.Facility.{idle, is_idle as is_idle_now};
 ghost use Rattle.gw_entities.specs.Storage.{has_room};
@@ -11,12 +11,12 @@ ghost use Rattle.gw_step.specs.State.{delay_list};
 ghost use Rattle.gw_step.specs.Changes as change;
 ghost use Rattle.gw_step.specs.Changes.{enters_and_falls, facility, storage};
 ghost use Rattle.gw_step.specs.Residence.{occurrences};
-ghost use Rattle.gw_machine.specs.Leaving.{BecomesBy, Moves, waiter_at, waiter_come_to};
-ghost use Rattle.gw_machine.specs.Admission.{AsksInVain, AdmitsNobody};
+ghost use Rattle.gw_machine.specs.Leaving.{BecomesBy, waiter_at, waiter_come_to, MovesCurrent};
+ghost use Rattle.gw_machine.specs.Admission.{AsksInVain, AdmitsNobody, EndsWalk};
 ghost use Rattle.gw_step.specs.Blocks as model;
 ghost use Rattle.gw_machine.specs.View.{lists_of, state_of, entity_count};
 ghost use Rattle.gw_machine.specs.Coherence.{IsSteady};
-ghost use Rattle.gw_machine.specs.Entities.{HasStorage, CanCountEntries, CanCountOwner, handed_over_to};
+ghost use Rattle.gw_machine.specs.Entities.{HasStorage, CanCountEntries, CanCountOwner, handed_over_to, taken_over_by};
 ghost use Rattle.gw_machine.specs.Frames.{KeepsFacilities, OnlyEntryIsMade};
 
 use crate::machine::{Machine, entry_or_none, raise};
@@ -76,8 +76,7 @@ impl Machine {
         requires idle { is_idle_now (facility f (state_of self.old)) ≡ true }
         requires first { waiter_at f 0 self.old ≡ Some tx }
         requires room { 0 < self.old.current_events.room }
-        ensures { BecomesBy (λ s. option_map_or (model.takes_over blocks.now f tx.number s)
-            (attributes_at tx.number self.old.transactions.txs) s) self.old self.new }
+        ensures { BecomesBy (taken_over_by blocks.now f tx.number) self.old self.new }
     {
         let transaction = *self.transactions.get(tx);
         if is_seize(f, block_of(blocks, transaction.next)) {
@@ -126,10 +125,7 @@ impl Machine {
     /// unit is free, so that nobody else can enter.
     fn next_waiter(&self, e: u16) -> Option<Tx>
         requires there { HasStorage e self.now }
-        ensures { MatchOption result
-            ((waiter_come_to e self.now ≡ None)
-            ⊎ (model.is_full (storage e (state_of self.now)) ≡ true))
-            (λ tx. waiter_come_to e self.now ≡ Some tx) }
+        ensures { MatchOption result (EndsWalk e self.now) (λ tx. waiter_come_to e self.now ≡ Some tx) }
     {
         if self.has_nothing_free(e) {
             return None;
@@ -201,7 +197,7 @@ impl Machine {
         ensures state { state_of self.new
             ≡ model.looked_at blocks.now e tx.number (state_of self.old) }
         ensures steady { IsSteady blocks.now (self.old.steps + 1) self.new }
-        ensures moves { Moves result e (at 0 self.old.waits.places e) self.old self.new }
+        ensures moves { MovesCurrent result e self.old self.new }
         ensures frame { KeepsFacilities self.old self.new }
     {
         let transaction = *self.transactions.get(tx);
@@ -222,8 +218,7 @@ impl Machine {
         requires room { 0 < self.old.current_events.room }
         ensures state { state_of self.new
             ≡ model.enters_if_free tx.number transaction (state_of self.old) units }
-        ensures moves { let place = at 0 self.old.waits.places units.entity in
-            Moves result units.entity place self.old self.new }
+        ensures moves { MovesCurrent result units.entity self.old self.new }
         ensures frame { KeepsFacilities self.old self.new }
     {
         if !self.has_free(units) {

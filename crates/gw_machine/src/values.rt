@@ -14,10 +14,9 @@ ghost use Rattle.gw_rules.specs.Accepted.{Checked};
 ghost use Rattle.gw_plus.specs.Reading as lent;
 ghost use Rattle.gw_transactions.specs.Transactions.{Holds};
 ghost use Rattle.gw_step.specs.Operands.{MayEvaluate};
-ghost use Rattle.gw_step.specs.Times as model;
 ghost use Rattle.gw_machine.specs.View.{state_of};
 ghost use Rattle.gw_machine.specs.Coherence.{IsOf};
-ghost use Rattle.gw_machine.specs.Evaluating.{subject_of, parameters_for, IsReadable, CanEvaluate, valued, environment_in};
+ghost use Rattle.gw_machine.specs.Evaluating.{subject_of, parameters_for, IsReadable, CanEvaluate, environment_in, next_environment_in, EvaluatesSource, EvaluatesOperand};
 
 use crate::machine::Machine;
 use gw_blocks::{EntityAttribute, Numbered, Operand};
@@ -108,8 +107,7 @@ impl Machine {
     /// The next transaction that is to arrive, with this priority: it enters the model now.
     pub fn next_subject(&self, priority: i32) -> Subject
         requires { IsReadable self.now }
-        ensures next { environment_in result self.now
-            ≡ model.environment_of_next priority (state_of self.now) }
+        ensures next { environment_in result self.now ≡ next_environment_in priority self.now }
         ensures can { CanEvaluate self.now result }
     {
         Subject {
@@ -175,8 +173,7 @@ impl Machine {
         requires fits { OperandFits source }
         requires set { HasSet (environment_in subject self.now)
             (asked_by_source verified.now source) }
-        ensures { values.source_value verified.now (environment_in subject self.now) bound source
-            streams.old ≡ valued result streams.new }
+        ensures { EvaluatesSource verified.now subject bound source self.now result streams.old streams.new }
     {
         match source {
             Operand::Random(stream) => Ok(drawn_below(bound, stream, streams)),
@@ -197,8 +194,7 @@ impl Machine {
         requires own { IsOf verified.now self.now }
         requires subject { CanEvaluate self.now subject }
         requires operand { MayEvaluate verified.now (environment_in subject self.now) operand }
-        ensures { values.operand_value verified.now (environment_in subject self.now) operand
-            streams.old ≡ valued result streams.new }
+        ensures { EvaluatesOperand verified.now subject operand self.now result streams.old streams.new }
     {
         match operand {
             Operand::Constant(number) => Ok(number),
@@ -219,8 +215,7 @@ impl Machine {
         requires own { IsOf verified.now self.now }
         requires subject { CanEvaluate self.now subject }
         requires operand { MayEvaluate verified.now (environment_in subject self.now) operand }
-        ensures { values.operand_value verified.now (environment_in subject self.now) operand
-            streams.old ≡ valued result streams.new }
+        ensures { EvaluatesOperand verified.now subject operand self.now result streams.old streams.new }
     {
         let entities = verified.object().parts().entities.as_slice();
         let source = source_of(entities, operand);

@@ -1,8 +1,8 @@
 //! At which blocks the members of a long delay list wait, and how many at each.
 
-ghost use Rattle.std.specs.Prelude.{◌≡◌, ◌≤◌, ◌<◌, ◌+◌, ◌^◌, ◌⊎◌, ℕ, [], Some, option_map, length, map, vec_len, MatchOption, IfOk, OnOk, true, false};
+ghost use Rattle.std.specs.Prelude.{◌≡◌, ◌≤◌, ◌<◌, ◌+◌, ◌^◌, ◌⊎◌, ℕ, [], Some, option_map, map, vec_len, MatchOption, IfOk, OnOk, true, false};
 ghost use Rattle.gw_num.specs.Table.{at};
-ghost use Rattle.gw_machine.specs.Wants.{AreTold, CountsEntry, CountsLeaver, CountsNewcomer, IsAt, JoinsIfKnown, KeepsOthers, LeavesIfKnown, nobody, wanting};
+ghost use Rattle.gw_machine.specs.Wants.{AreTold, CountsEntry, CountsLeaver, CountsNewcomer, IsAt, JoinsIfKnown, KeepsOthers, LeavesIfKnown, wanting, AllCountFewer, KeepsEntries};
 ghost use Rattle.gw_machine.specs.Known.{wants_of};
 
 use crate::machine::entry_or_none;
@@ -45,10 +45,7 @@ impl Model for Wants {
 
 /// Where those are counted who want to enter a block, and are so many or more; none where nowhere.
 fn place_of(wants: &[Want], block: u16, least: usize) -> Option<usize>
-    ensures { MatchOption result
-        ((i : ℕ) → i < length wants.now → (at nobody wants.now i).block ≡ block
-        → (at nobody wants.now i).waiting < least)
-        (λ i. IsAt block least i wants.now) }
+    ensures { MatchOption result (AllCountFewer block least wants.now) (λ i. IsAt block least i wants.now) }
 {
     for i in 0..wants.len() {
         let want = wants[i];
@@ -64,8 +61,7 @@ fn one_more(want: Want, entries: u64) -> Want
     requires few { want.waiting ≤ 2 ^ 62 }
     ensures block { result.block ≡ want.block }
     ensures waiting { result.waiting ≡ want.waiting + 1 }
-    ensures entries { (0 < want.waiting → result.entries ≡ want.entries)
-        × ((result.entries ≡ want.entries) ⊎ (result.entries ≡ entries)) }
+    ensures entries { KeepsEntries entries want result }
 {
     Want {
         block: want.block,

@@ -48,3 +48,7 @@ module _ {A : Type 0} where
   abbrev pub rest : List A → List A
   rest [] = []
   rest (x ∷ xs) = xs
+
+  -- all but the first where that leaves, else all
+  abbrev pub rest_if : Bool → List A → List A
+  rest_if leaves xs = if leaves then rest xs else xs

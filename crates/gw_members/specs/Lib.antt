@@ -1,3 +1,4 @@
 pub mod Chain
 pub mod Lists
 pub mod Firsts
+pub mod Members

@@ -44,6 +44,10 @@ pub record IsJobOf (bytes : List ℕ) (j : Job) : Type 0 where
 abbrev pub IsRefusalOf : List ℕ → Fault → Type 0
 IsRefusalOf bytes fault = IsRefusedText bytes fault ⊎ ((statements : List Statement) × HasStatements bytes statements × IsRefusal statements fault)
 
+-- what was found of the job of statements: the job, or why there is none
+abbrev pub FindsJobIn : List Statement → Result Job NoJob → Type 0
+FindsJobIn statements found = Finds found (IsJobOfStatements statements) (IsRefusal statements)
+
 -- what was found of the job of a model text: the job, or why there is none
 abbrev pub FindsJobOf : List ℕ → Result Job NoJob → Type 0
 FindsJobOf bytes found = Finds found (IsJobOf bytes) (IsRefusalOf bytes)

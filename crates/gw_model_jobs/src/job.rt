@@ -1,9 +1,8 @@
 //! From a model text to its job.
 
 ghost use Rattle.std.specs.Prelude.{◌≡◌, [], IfOk, IfErr};
-ghost use Rattle.gw_assemble.specs.Assembly.{IsRefusal};
 ghost use Rattle.gw_scan.specs.Making.{job_from};
-ghost use Rattle.gw_model_jobs.specs.ModelJobs.{OnRefusal, Finds, IsJobOfStatements, FindsJobOf};
+ghost use Rattle.gw_model_jobs.specs.ModelJobs.{OnRefusal, FindsJobIn, FindsJobOf};
 
 use gw_answers::{BUDGET, NoJob, Refusal};
 use gw_assemble::assemble;
@@ -40,8 +39,7 @@ fn spec_of_object(alloc: Global, verified: Verified) -> Result<Spec, NoJob>
 
 /// The job of what a text was read as; or why there is none.
 fn spec_of_model(alloc: Global, model: &Model) -> Result<Spec, NoJob>
-    ensures found { let statements = model.now.statements.items in
-        Finds result (IsJobOfStatements statements) (IsRefusal statements) }
+    ensures found { FindsJobIn model.now.statements.items result }
     ensures budget { IfOk result (λ spec. spec.budget ≡ BUDGET) }
 {
     match assemble(alloc, model) {

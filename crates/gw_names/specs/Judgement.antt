@@ -1,5 +1,5 @@
 -- Which uses are refused.
-use Rattle.std.specs.Prelude.{ℕ, List, Option, Some, None, Bool, true, false, ◌&&◌, if◌then◌else◌, nat_lt, ◌==◌, length, slice_get, is_some}
+use Rattle.std.specs.Prelude.{ℕ, List, Option, Some, None, Bool, true, false, ◌&&◌, if◌then◌else◌, nat_lt, ◌==◌, length, map, slice_get, is_some}
 use Rattle.std.specs.List.{flat_map}
 use Rattle.gw_rules.specs.declared.entities.EntityKind.{EntityKind}
 use Rattle.gw_rules.specs.declared.entities.EntityKind.TheVariants as kinds
@@ -7,7 +7,8 @@ use Rattle.gw_text.specs.declared.model.Body.{Body}
 use Rattle.gw_text.specs.declared.model.Body.TheVariants as bodies
 use Rattle.gw_text.specs.declared.model.Statement.{Statement}
 use Rattle.gw_uses.specs.Mentions.{Mention, Entity, Parameter, ParameterNumber, Label, Equ, Call, Target}
-use Rattle.gw_uses.specs.Sites.{Mentioned, mentioned_in}
+use Rattle.gw_uses.specs.declared.sites.Site.{Site}
+use Rattle.gw_uses.specs.Sites.{Mentioned, mention_at, mentioned_in}
 use Rattle.gw_names.specs.declared.ledger.Noted.{Noted}
 use Rattle.gw_names.specs.declared.known.Known.{Known}
 use Rattle.gw_names.specs.Codes.{name_fault, storage_fault}
@@ -121,6 +122,10 @@ refusal_of declared statements m = noted_if m.line (fault_at declared statements
 -- those of these uses
 abbrev pub refusals_among : Declared → List Statement → List Mentioned → List Noted
 refusals_among declared statements ms = flat_map (refusal_of declared statements) ms
+
+-- those of the uses at these sites, by what is known
+abbrev pub refusals_at : Known → List Statement → List Site → List Noted
+refusals_at known statements sites = refusals_among (declared_by known) statements (map mention_at sites)
 
 -- those of all uses of a text
 abbrev pub refusals_by : Declared → List Statement → List Noted

@@ -16,7 +16,8 @@ use Rattle.gw_text.specs.declared.model.Body.TheVariants as bodies
 use Rattle.gw_text.specs.declared.model.Statement.{Statement}
 use Rattle.gw_uses.specs.Statements.{declared_kind}
 use Rattle.gw_names.specs.declared.entities.ByKind.{ByKind}
-use Rattle.gw_names.specs.Known.{Key, key, is_same, found_in, entity_of}
+use Rattle.gw_names.specs.declared.places.Places.{Places}
+use Rattle.gw_names.specs.Known.{Finds, Key, key, is_same, found_in, entity_of}
 
 -- LISTS OF WHAT IS DECLARED
 
@@ -157,3 +158,18 @@ numbers_below above (s ∷ ss) = numbers_below (number_below above s) ss
 -- the number that an EQU of a text is, if it is one
 abbrev pub equ_number_of : List Statement → List ℕ → Option ℤ
 equ_number_of statements = numbers_below (λ name. None) statements
+
+-- STATEMENTS ONE BY ONE
+
+module _ {A E : Type 0} (result : Result A E) (old new : Places) (statement : Statement) where
+  -- where there is memory, the PROCEDURE that a statement at this place declares, if it does, stands for it from now on
+  abbrev pub SetsProcedure : ℕ → Type 0
+  SetsProcedure place = Sets result old.procedures new.procedures (named (declared_procedure statement) place)
+
+  -- and so does its EQU
+  abbrev pub SetsEqu : ℕ → Type 0
+  SetsEqu place = Sets result old.equs new.equs (named (declared_equ statement) place)
+
+  -- where there is memory, names are the numbers that they are below the statement
+  abbrev pub SetsNumber : Type 0
+  SetsNumber = OnOk result (Finds (number_below (found_in old.equ_numbers) statement) new.equ_numbers)

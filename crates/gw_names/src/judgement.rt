@@ -1,10 +1,10 @@
 //! Whether what a text uses is there.
 
-ghost use Rattle.std.specs.Prelude.{◌≡◌, map, OnOk, OnErr};
+ghost use Rattle.std.specs.Prelude.{◌≡◌, OnOk, OnErr};
 ghost use Rattle.gw_uses.specs.Sites.{mention_at};
 ghost use Rattle.gw_names.specs.Ledger.{Notes};
 ghost use Rattle.gw_names.specs.Judgement as model;
-ghost use Rattle.gw_names.specs.Judgement.{declared_by, fault_at, refusals_among, refusals_by};
+ghost use Rattle.gw_names.specs.Judgement.{declared_by, fault_at, refusals_at, refusals_by};
 
 use crate::codes;
 use crate::declarations::is_equ;
@@ -120,8 +120,7 @@ fn fault_of(known: &Known, statements: &[Statement], site: Site<'_>) -> Option<u
 
 /// Judges these uses.
 fn judge(known: &Known, statements: &[Statement], sites: &[Site<'_>], ledger: &mut Ledger)
-    ensures { Notes ledger.old ledger.new
-        (refusals_among (declared_by known.now) statements.now (map mention_at sites.now)) }
+    ensures { Notes ledger.old ledger.new (refusals_at known.now statements.now sites.now) }
 {
     for i in 0..sites.len() {
         let site = sites[i];

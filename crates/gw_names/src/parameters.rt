@@ -6,10 +6,9 @@ ghost use Rattle.gw_uses.specs.Sites.{mention_at};
 ghost use Rattle.gw_names.specs.Known.{found_in};
 ghost use Rattle.gw_names.specs.Ledger.{Notes};
 ghost use Rattle.gw_names.specs.Sights as model;
-ghost use Rattle.gw_names.specs.Sights.{with_parameter, with_parameter_in, parameters_after};
-ghost use Rattle.gw_names.specs.Sights.{unplaced_parameter, unplaced_parameter_in};
-ghost use Rattle.gw_names.specs.Sights.{parameter_limits_after, parameters_among, parameter_limits_among};
-ghost use Rattle.gw_names.specs.Sighting.{AddsName, HaveNumbers, names_of};
+ghost use Rattle.gw_names.specs.Sights.{parameters_among, parameter_limits_among};
+ghost use Rattle.gw_names.specs.Sighting.{AddsName, HaveNumbers, SeesName, SeesNameIn, SeesNames};
+ghost use Rattle.gw_names.specs.Sighting.{RefusesName, RefusesNameIn, RefusesNames, names_of};
 
 use crate::codes;
 use crate::ledger::Ledger;
@@ -98,10 +97,9 @@ fn see(
 ) -> Result<(), AllocError>
     requires given { HaveNumbers free.now parameters.old }
     ensures given { OnOk result (HaveNumbers free.now parameters.new) }
-    ensures names { OnOk result (names_of parameters.new
-        ≡ with_parameter free.now (names_of parameters.old) (string_bytes name.now)) }
-    ensures ledger { OnOk result (Notes ledger.old ledger.new
-        (unplaced_parameter free.now (names_of parameters.old) line (string_bytes name.now))) }
+    ensures names { OnOk result (SeesName free.now name.now parameters.old parameters.new) }
+    ensures ledger { OnOk result (RefusesName free.now parameters.old line name.now
+        ledger.old ledger.new) }
 {
     if found(parameters, name).is_some() {
         Ok(())
@@ -124,10 +122,9 @@ fn see_site(
 ) -> Result<(), AllocError>
     requires given { HaveNumbers free.now parameters.old }
     ensures given { OnOk result (HaveNumbers free.now parameters.new) }
-    ensures names { OnOk result (names_of parameters.new
-        ≡ with_parameter_in free.now (names_of parameters.old) (mention used.entry)) }
-    ensures ledger { OnOk result (Notes ledger.old ledger.new
-        (unplaced_parameter_in free.now (names_of parameters.old) line (mention used.entry))) }
+    ensures names { OnOk result (SeesNameIn free.now used.entry parameters.old parameters.new) }
+    ensures ledger { OnOk result (RefusesNameIn free.now parameters.old line used.entry
+        ledger.old ledger.new) }
 {
     match used {
         Use::Parameter(name) => see(parameters, ledger, free, line, name),
@@ -144,10 +141,9 @@ fn see_sites(
 ) -> Result<(), AllocError>
     requires given { HaveNumbers free.now parameters.old }
     ensures given { OnOk result (HaveNumbers free.now parameters.new) }
-    ensures names { OnOk result (names_of parameters.new
-        ≡ parameters_after free.now (names_of parameters.old) (map mention_at sites.now)) }
-    ensures ledger { OnOk result (Notes ledger.old ledger.new
-        (parameter_limits_after free.now (names_of parameters.old) (map mention_at sites.now))) }
+    ensures names { OnOk result (SeesNames free.now sites.now parameters.old parameters.new) }
+    ensures ledger { OnOk result (RefusesNames free.now parameters.old sites.now
+        ledger.old ledger.new) }
 {
     for i in 0..sites.len() {
         let site = sites[i];

@@ -1,9 +1,9 @@
 //! What names stand for by the statements that declare them: blocks, PROCEDUREs and EQUs.
 
-ghost use Rattle.std.specs.Prelude.{◌≡◌, IfOk, OnOk};
-ghost use Rattle.gw_names.specs.Known.{Finds, found_in};
+ghost use Rattle.std.specs.Prelude.{◌≡◌, IfOk};
+ghost use Rattle.gw_names.specs.Known.{Finds};
 ghost use Rattle.gw_names.specs.Places as model;
-ghost use Rattle.gw_names.specs.Places.{Sets, named, declared_equ, declared_procedure};
+ghost use Rattle.gw_names.specs.Places.{Sets, SetsEqu, SetsNumber, SetsProcedure};
 ghost use Rattle.gw_names.specs.Places.{block_of, procedure_of, equ_of, equ_number_of};
 
 use crate::declarations::{set_equ, set_procedure};
@@ -36,13 +36,9 @@ fn add(
     ensures counted { IfOk result (λ after. after ≡ model.counted blocks statement.now) }
     ensures blocks { Sets result places.old.blocks places.new.blocks
         (model.block_label blocks statement.now) }
-    ensures procedures { Sets result places.old.procedures places.new.procedures
-        (named (declared_procedure statement.now) place) }
-    ensures equs { Sets result places.old.equs places.new.equs
-        (named (declared_equ statement.now) place) }
-    ensures numbers { OnOk result (Finds
-        (model.number_below (found_in places.old.equ_numbers) statement.now)
-        places.new.equ_numbers) }
+    ensures procedures { SetsProcedure result places.old places.new statement.now place }
+    ensures equs { SetsEqu result places.old places.new statement.now place }
+    ensures numbers { SetsNumber result places.old places.new statement.now }
 {
     set_procedure(&mut places.procedures, place, statement)?;
     set_equ(&mut places.equs, place, statement)?;

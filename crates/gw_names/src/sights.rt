@@ -1,13 +1,9 @@
 //! Entities, in the order in which a text speaks of them first.
 
-ghost use Rattle.std.specs.Prelude.{◌≡◌, ◌<◌, None, length, map, OnOk, IfOk, string_bytes};
-ghost use Rattle.gw_uses.specs.Mentions.{mention};
-ghost use Rattle.gw_uses.specs.Sites.{mention_at};
-ghost use Rattle.gw_names.specs.Known.{key, entity_of};
-ghost use Rattle.gw_names.specs.Ledger.{Notes};
-ghost use Rattle.gw_names.specs.Sights.{with_entity, with_entity_in, entities_after};
-ghost use Rattle.gw_names.specs.Sights.{unplaced_entity, unplaced_entity_in, entity_limits_after};
-ghost use Rattle.gw_names.specs.Sighting.{AddsKey, IsSighted, keys_of};
+ghost use Rattle.std.specs.Prelude.{◌≡◌, ◌<◌, None, length, OnOk, IfOk, string_bytes};
+ghost use Rattle.gw_names.specs.Known.{entity_of};
+ghost use Rattle.gw_names.specs.Sighting.{AddsKey, IsSighted, SeesKey, SeesKeyIn, SeesKeys};
+ghost use Rattle.gw_names.specs.Sighting.{RefusesKey, RefusesKeyIn, RefusesKeys};
 
 use crate::codes;
 use crate::entities::{Declarations, EntityNames};
@@ -81,10 +77,8 @@ fn see(
 ) -> Result<(), AllocError>
     requires sighted { IsSighted declarations.now entities.old sighted.old.items }
     ensures sighted { OnOk result (IsSighted declarations.now entities.new sighted.new.items) }
-    ensures keys { OnOk result (keys_of sighted.new.items
-        ≡ with_entity (keys_of sighted.old.items) (key kind (string_bytes name.now))) }
-    ensures ledger { OnOk result (Notes ledger.old ledger.new
-        (unplaced_entity (keys_of sighted.old.items) line (key kind (string_bytes name.now)))) }
+    ensures keys { OnOk result (SeesKey kind name.now sighted.old sighted.new) }
+    ensures ledger { OnOk result (RefusesKey sighted.old line kind name.now ledger.old ledger.new) }
 {
     if entities.get(kind, name).is_some() {
         Ok(())
@@ -107,10 +101,8 @@ fn see_site(
 ) -> Result<(), AllocError>
     requires sighted { IsSighted declarations.now entities.old sighted.old.items }
     ensures sighted { OnOk result (IsSighted declarations.now entities.new sighted.new.items) }
-    ensures keys { OnOk result (keys_of sighted.new.items
-        ≡ with_entity_in (keys_of sighted.old.items) (mention used.entry)) }
-    ensures ledger { OnOk result (Notes ledger.old ledger.new
-        (unplaced_entity_in (keys_of sighted.old.items) line (mention used.entry))) }
+    ensures keys { OnOk result (SeesKeyIn used.entry sighted.old sighted.new) }
+    ensures ledger { OnOk result (RefusesKeyIn sighted.old line used.entry ledger.old ledger.new) }
 {
     match used {
         Use::Entity(kind, name) => see(entities, sighted, ledger, declarations, line, kind, name),
@@ -128,10 +120,8 @@ pub(crate) fn see_sites(
 ) -> Result<(), AllocError>
     requires sighted { IsSighted declarations.now entities.old sighted.old.items }
     ensures sighted { OnOk result (IsSighted declarations.now entities.new sighted.new.items) }
-    ensures keys { OnOk result (keys_of sighted.new.items
-        ≡ entities_after (keys_of sighted.old.items) (map mention_at sites.now)) }
-    ensures ledger { OnOk result (Notes ledger.old ledger.new
-        (entity_limits_after (keys_of sighted.old.items) (map mention_at sites.now))) }
+    ensures keys { OnOk result (SeesKeys sites.now sighted.old sighted.new) }
+    ensures ledger { OnOk result (RefusesKeys sighted.old sites.now ledger.old ledger.new) }
 {
     for i in 0..sites.len() {
         let site = sites[i];

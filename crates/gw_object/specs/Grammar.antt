@@ -185,7 +185,9 @@ start_count = ranged 1 greatest_count (number w64)
 -- the head, seeds, termination count, entities, procedures, blocks, and what stands for each block and each user chain
 unfoldable pub object : Field Parts
 object = as_type
-    (λ ((_, version), (seeds, (count, (entities, (procedures, (blocks, (returns, (states, (chain_states, ((weights, slopes), chain_weights)))))))))). record { version = version; seeds = seeds; count = count; entities = entities; procedures = procedures; blocks = blocks; returns = returns; states = states; chain_states = chain_states; weights = weights; slopes = slopes; chain_weights = chain_weights })
+    (λ ((_, version), (seeds, (count, (entities, (procedures, (blocks, (returns, (states, (chain_states, ((weights, slopes), chain_weights)))))))))).
+        record { version = version; seeds = seeds; count = count; entities = entities; procedures = procedures; blocks = blocks;
+            returns = returns; states = states; chain_states = chain_states; weights = weights; slopes = slopes; chain_weights = chain_weights })
     (λ p. ((tt, p.version), (p.seeds, (p.count, (p.entities, (p.procedures, (p.blocks, (p.returns, (p.states, (p.chain_states, ((p.weights, p.slopes), p.chain_weights)))))))))))
     (and_then head (λ head. both (listed 0 most_seeds seed) (both start_count (and_then (listed 0 most_entities entity) (λ entities. both (listed 0 most_procedures (plain procedure))
     (and_then (listed 0 most_blocks (plain (block head.1))) (λ blocks. tables head.1 (length blocks) (chains_in entities))))))))

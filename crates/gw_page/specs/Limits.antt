@@ -10,7 +10,7 @@ use Rattle.gw_figures.specs.Labels.{labels_of}
 use Rattle.gw_study.specs.Runs.{run_job}
 use Rattle.gw_alternatives.specs.Alternatives.{ArePoints}
 use Rattle.gw_alternatives.specs.declared.alternative.Alternative.{Alternative}
-use Rattle.gw_command_line.specs.Words.{Act, Ask, Charts, Code, Help, Version, Studies, Compares, Rows, Sums, Object, Shares, Demand, RunsDemand}
+use Rattle.gw_command_line.specs.Words.{Choices, Act, Ask, Charts, Code, Help, Version, Studies, Compares, Rows, Sums, Object, Shares, Demand, RunsDemand}
 use Rattle.gw_command_line.specs.declared.words.Question.{Question}
 use Rattle.gw_command_line.specs.declared.words.Question.TheVariants.{Explain, List as Lists, Points, Convert, Trace, Report}
 use Rattle.gw_planner.specs.Answers.{words_of}
@@ -64,6 +64,10 @@ abbrev pub IsOfPoints : List ℕ → List (List ℕ) → ℕ → ℕ → ℕ →
 IsOfPoints text words count number runs within =
     (points : List Alternative) × ArePoints text words count points × AreWithin number runs points within
 
+-- the same where options name the words
+abbrev pub IsOfOptions : List ℕ → Choices → ℕ → ℕ → ℕ → Bool → Type 0
+IsOfOptions text options count number runs within = IsOfPoints text (words_of options) count number runs within
+
 -- the first run of a study
 abbrev pub first_of : Demand → ℕ
 first_of d = (unwrap_or d.options.seeds 1 - 1) * d.runs
@@ -81,8 +85,8 @@ QuestionCosts (Report seed count) text within = IsOfReport text seed count withi
 abbrev pub Costs : Act → List ℕ → Bool → Type 0
 Costs (Ask question) text within = QuestionCosts question text within
 Costs (Charts span name) text within = IsOfModel text end_of_time most_steps within
-Costs (Studies d) text within = IsOfPoints text (words_of d.options) d.count (first_of d) d.runs within
-Costs (Rows d) text within = IsOfPoints text (words_of d.options) d.count (min d.first 511) (d.end - d.first) within
+Costs (Studies d) text within = IsOfOptions text d.options d.count (first_of d) d.runs within
+Costs (Rows d) text within = IsOfOptions text d.options d.count (min d.first 511) (d.end - d.first) within
 Costs _ text within = within ≡ true
 
 -- what was found of a cost: it is within the limits, or it isn't; where what is asked is refused, nothing is known

@@ -17,3 +17,8 @@ pub record IsConversation (unread left written told : Option (List ℕ)) : Type 
   pub wrote : Appends written told history.sent
   pub served : ∥ IsServed config history ∥₁
   pub answers : All (λ call. Answers call.0 call.1) history.calls
+
+-- the same of what a reader and a writer have
+abbrev pub Converses : {R W : Type 0} → (R → Option (List ℕ)) → (W → Option (List ℕ)) → R → R → W → W → Type 0
+Converses remaining contents reader left writer told =
+    IsConversation (remaining reader) (remaining left) (contents writer) (contents told)

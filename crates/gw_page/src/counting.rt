@@ -1,8 +1,8 @@
 //! Whether a run is short enough, by making it.
 
-ghost use Rattle.std.specs.Prelude.{◌≡◌, ◌≤◌, ◌<◌, IfOk, MatchBool};
-ghost use Rattle.gw_step.specs.Job.{IsFinal, IsReached};
-ghost use Rattle.gw_page.specs.Counting.{IsCounted};
+ghost use Rattle.std.specs.Prelude.{◌≡◌, ◌≤◌, ◌<◌, IfOk};
+ghost use Rattle.gw_step.specs.Job.{IsReached};
+ghost use Rattle.gw_page.specs.Counting.{EndsOrSteps, IsCounted};
 
 use gw_model_jobs::{Time, is_over};
 use gw_object::Memory;
@@ -21,8 +21,7 @@ fn step_on(sim: &mut Sim, most: u64) -> Result<bool, Memory>
     ensures job { sim.new.job ≡ sim.old.job }
     ensures most { sim.new.state.steps ≤ most }
     ensures reached { IsReached sim.new }
-    ensures ended { IfOk result (λ ended.
-        MatchBool ended (IsFinal sim.new.state) (sim.old.state.steps < sim.new.state.steps)) }
+    ensures ended { IfOk result (EndsOrSteps sim.old.state sim.new.state) }
 {
     let left = (most - sim.steps()).min(SLICE);
     let slice = sim.run_slice(left as u32)?;

@@ -6,10 +6,9 @@ ghost use Rattle.gw_command_line.specs.Options.{view};
 ghost use Rattle.gw_command_line.specs.Words.{Ask, Rows, Studies, runs_view, study_view};
 ghost use Rattle.gw_page.specs.Inquiries.{act_asked, MayBeAsked};
 ghost use Rattle.gw_page.specs.Limits as model;
-ghost use Rattle.gw_page.specs.Limits.{IsAllowance, IsFound, IsOfModel, IsOfObject, IsOfReport, IsOfPoints, IsShare, AreShares, AreWithin};
+ghost use Rattle.gw_page.specs.Limits.{IsAllowance, IsFound, IsOfModel, IsOfObject, IsOfOptions, IsOfReport, IsShare, AreShares, AreWithin};
 ghost use Rattle.gw_figures.specs.Labels.{labels_of};
 ghost use Rattle.gw_study.specs.Runs.{run_job};
-ghost use Rattle.gw_planner.specs.Answers.{words_of as words_for};
 
 use crate::counting::{END, is_short};
 use crate::inquiry::Inquiry;
@@ -178,8 +177,8 @@ fn allowance_of_points(
     runs: u64,
 ) -> Result<Allowance, Memory>
     requires { (number < 512) × (runs ≤ 512) }
-    ensures { IfOk result (λ found. IsFound found
-        (IsOfPoints text.now (words_for (view options.now)) count number runs)) }
+    ensures { IfOk result (λ found.
+        IsFound found (IsOfOptions text.now (view options.now) count number runs)) }
 {
     let words = words_of(alloc, options)?;
     match points_by_words(alloc, text, &words, count) {

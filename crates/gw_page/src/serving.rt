@@ -1,7 +1,7 @@
 //! The page as a service of HTTP.
 
 ghost use Rattle.std.specs.Prelude.{◌≡◌};
-ghost use Rattle.gw_page.specs.Serving.{IsConversation};
+ghost use Rattle.gw_page.specs.Serving.{Converses};
 
 use crate::quiet::Quiet;
 use crate::reply::send;
@@ -50,8 +50,7 @@ pub fn serve_page<T: Threads + Wait, R: Read, W: Write>(
     reader: &mut R,
     writer: &mut W,
 ) -> io::Result<()>
-    ensures served { IsConversation (R.remaining reader.old) (R.remaining reader.new)
-        (W.contents writer.old) (W.contents writer.new) }
+    ensures served { Converses R.remaining W.contents reader.old reader.new writer.old writer.new }
 {
     let mut page = Page {
         quiet: Quiet::of(rt),

@@ -1,6 +1,6 @@
 //! The words that a request names.
 
-ghost use Rattle.std.specs.Prelude.{◌≡◌, ◌∷◌, ◌++◌, map, option_map, unwrap_or, [], IfOk, OnOk};
+ghost use Rattle.std.specs.Prelude.{◌≡◌, ◌∷◌, map, option_map, unwrap_or, [], IfOk, OnOk};
 ghost use Rattle.std.specs.String.{string_bytes};
 ghost use Rattle.gw_page.specs.Words as model;
 
@@ -16,8 +16,8 @@ fn word_in(alloc: Global, piece: &[u8]) -> Result<String, AllocError>
 
 /// Adds a word, `=`, and another: one word as `NURSES=2,3`.
 fn put_parameter(words: &mut Vec<String>, key: String, value: &str) -> Result<(), AllocError>
-    ensures { OnOk result (map string_bytes words.new.items
-        ≡ map string_bytes words.old.items ++ model.parameter (string_bytes key) value.now ∷ []) }
+    ensures { OnOk result (model.AddsWords words.old words.new
+        (model.parameter (string_bytes key) value.now ∷ [])) }
 {
     let mut word = key;
     word.push_str("=")?;
@@ -32,8 +32,8 @@ fn put_pair(
     key: &[u8],
     value: &[u8],
 ) -> Result<(), AllocError>
-    ensures { OnOk result (map string_bytes words.new.items
-        ≡ map string_bytes words.old.items ++ model.words_of_pair (key.now, value.now)) }
+    ensures { OnOk result
+        (model.AddsWords words.old words.new (model.words_of_pair (key.now, value.now))) }
 {
     let key = word_in(alloc, key)?;
     if value.is_empty() {

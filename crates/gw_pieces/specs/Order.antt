@@ -259,6 +259,10 @@ order_by l = if nat_lt MOST_PROCEDURES (length l.origins) then l.origins else or
 abbrev pub lookup_by : Known → List Statement → List Origin → Lookup
 lookup_by known ss origins = record { declared = declared_by known; statements = ss; origins = origins }
 
+-- and by the statements of a text
+abbrev pub lookup_for : Known → Model → List Origin → Lookup
+lookup_for known text origins = lookup_by known text.statements.items origins
+
 abbrev pub lookup_of : Text → Lookup
 lookup_of text = lookup_by text.known.now text.model.now.statements.items text.origins.now
 

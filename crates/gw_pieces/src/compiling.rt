@@ -3,6 +3,7 @@
 ghost use Rattle.std.specs.Prelude.{◌≡◌, ◌++◌, ◌∷◌, [], OnOk, IfOk, IfErr, MatchResult};
 ghost use Rattle.gw_pieces.specs.Clear.{IsNoted};
 ghost use Rattle.gw_pieces.specs.Plans as plans;
+ghost use Rattle.gw_pieces.specs.Plans.{AddsCode};
 ghost use Rattle.gw_pieces.specs.Reasons.{blamed_by, NotesBlamed};
 ghost use Rattle.gw_pieces.specs.Reasons.{BlamesBody, BlamesOperand, BlamesPosition};
 ghost use Rattle.gw_pieces.specs.Sources.{CompilesBody, CompilesOperand, CompilesPosition};
@@ -130,7 +131,7 @@ fn put_procedure(
     operand: usize,
     ledger: &mut Ledger,
 ) -> Result<(), AllocError>
-    ensures grown { OnOk result (plans.AddsCode plan.now statement.now operand
+    ensures grown { OnOk result (AddsCode plan.now statement.now operand
         ledger.old ledger.new code.old code.new) }
     ensures notes { OnOk result (plans.NotesCodeAt plan.now statement.now operand ledger.old ledger.new) }
 {

@@ -3,6 +3,7 @@
 ghost use Rattle.std.specs.Prelude.{◌≡◌, OnOk, IfOk, string_bytes};
 ghost use Rattle.gw_pieces.specs.Entities as model;
 ghost use Rattle.gw_pieces.specs.Plans as plans;
+ghost use Rattle.gw_pieces.specs.Plans.{AddsEntity};
 
 use crate::blocks::{Numbers, note_none, numbers_for};
 use crate::initials::Initials;
@@ -85,7 +86,7 @@ fn put_entity(
 ) -> Result<(), AllocError>
     requires savevalues { model.AreSavevalues plan.now.text.now.statements.items initials.now }
     requires switches { model.AreSwitches plan.now.text.now.statements.items initials.now }
-    ensures grown { OnOk result (plans.AddsEntity plan.now sighted.now
+    ensures grown { OnOk result (AddsEntity plan.now sighted.now
         ledger.old ledger.new entities.old entities.new) }
     ensures notes { OnOk result (plans.NotesSighted plan.now sighted.now ledger.old ledger.new) }
 {

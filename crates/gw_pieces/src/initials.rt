@@ -1,9 +1,9 @@
 //! What INITIAL sets.
 
-ghost use Rattle.std.specs.Prelude.{◌≡◌, ℕ, List, OnOk, IfOk, option_map, slice_get, string_bytes};
+ghost use Rattle.std.specs.Prelude.{◌≡◌, IfOk, option_map, slice_get, string_bytes};
 ghost use Rattle.std.specs.Option.{option_copied};
-ghost use Rattle.gw_names.specs.Known.{found_in};
-ghost use Rattle.gw_names.specs.Places.{Adds, last_of};
+ghost use Rattle.gw_names.specs.Known.{Finds, found_in};
+ghost use Rattle.gw_names.specs.Places.{Sets, last_of};
 ghost use Rattle.gw_pieces.specs.Entities as model;
 
 use crate::settings::number_at;
@@ -61,8 +61,7 @@ fn set_initial(
     initial: Initial,
     statement: &Statement,
 ) -> Result<(), AllocError>
-    ensures { OnOk result (Adds (model.initial_by initial statement.now)
-        (found_in initials.old) (found_in initials.new)) }
+    ensures { Sets result initials.old initials.new (model.initial_by initial statement.now) }
 {
     match (statement.word, name_in(initial, &statement.operands)) {
         (Word::Initial, Some(name)) => set(initials, name, number_at(&statement.operands, 1)),
@@ -76,8 +75,7 @@ fn initials_in(
     sort: Initial,
     statements: &[Statement],
 ) -> Result<IndexMap<String, i64>, AllocError>
-    ensures { IfOk result (λ m. (name : List ℕ)
-        → found_in m name ≡ last_of (model.initials_in sort statements.now) name) }
+    ensures { IfOk result (Finds (last_of (model.initials_in sort statements.now))) }
 {
     let mut initials = IndexMap::new(alloc);
     for statement in statements {

@@ -1,9 +1,9 @@
 //! The order of the procedures: that of the text, but what one calls comes before it.
 
 ghost use Rattle.std.specs.Prelude.{◌≡◌, ◌++◌, ◌∷◌, [], OnOk, IfOk, Some, slice_get, set, true, string_bytes};
-ghost use Rattle.gw_uses.specs.Mentions.{mention, mentions};
+ghost use Rattle.gw_uses.specs.Mentions.{Puts, mention, mentions};
 ghost use Rattle.gw_pieces.specs.Order as model;
-ghost use Rattle.gw_pieces.specs.Order.{lookup_by, lookup_of, ordered_by};
+ghost use Rattle.gw_pieces.specs.Order.{lookup_for, lookup_of, ordered_by};
 
 use crate::origins::{Origin, expression_at, place_of, whole_call};
 use gw_names::{Known, found};
@@ -162,8 +162,7 @@ fn put_uses_at<'a>(
     statement: &'a Statement,
     operand: usize,
 ) -> Result<(), AllocError>
-    ensures { OnOk result (mentions uses.new.items
-        ≡ mentions uses.old.items ++ model.mentions_at statement.now operand) }
+    ensures { Puts result uses.old uses.new (model.mentions_at statement.now operand) }
 {
     match &statement.body {
         Body::Procedure(procedure) => put_uses_of_procedure(uses, procedure),
@@ -292,8 +291,8 @@ pub(crate) fn ordered(
     known: &Known,
     origins: &[Origin],
 ) -> Result<Vec<Origin>, AllocError>
-    ensures { IfOk result (λ order. order.items
-        ≡ ordered_by (lookup_by known.now model.now.statements.items origins.now)) }
+    ensures { IfOk result (λ order.
+        order.items ≡ ordered_by (lookup_for known.now model.now origins.now)) }
 {
     let text = Text {
         model,

@@ -5,7 +5,7 @@ ghost use Rattle.gw_object.specs.declared.limits.TheConstants.{MOST_PROCEDURES};
 ghost use Rattle.gw_names.specs.Naming.{Knows};
 ghost use Rattle.gw_pieces.specs.Clear.{StaysClear};
 ghost use Rattle.gw_pieces.specs.Making as making;
-ghost use Rattle.gw_pieces.specs.Order.{lookup_by, order_by, order_in};
+ghost use Rattle.gw_pieces.specs.Order.{lookup_for, order_by, order_in};
 ghost use Rattle.gw_pieces.specs.Reasons as reasons;
 
 use crate::naming::{Meanings, meanings_of};
@@ -44,8 +44,8 @@ fn placed(
     known: &Known,
     origins: Vec<Origin>,
 ) -> Result<Vec<Origin>, AllocError>
-    ensures { IfOk result (λ order. order.items
-        ≡ order_by (lookup_by known.now text.now.statements.items origins.items)) }
+    ensures { IfOk result (λ order.
+        order.items ≡ order_by (lookup_for known.now text.now origins.items)) }
 {
     if origins.len() > MOST_PROCEDURES {
         Ok(origins)

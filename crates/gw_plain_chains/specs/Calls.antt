@@ -1,15 +1,12 @@
 -- Lists of calls on a future events chain: what they leave of it, and what they answer.
-use Rattle.std.specs.Prelude.{ℤ, List, Option, None, option_map, is_some, if◌then◌else◌}
+use Rattle.std.specs.Prelude.{ℤ, Option, None, is_some, if◌then◌else◌}
 use Rattle.gw_plain_chains.specs.Calling.{BodyState}
-use Rattle.gw_members.specs.Chain.{in_time, due, first, rest}
+use Rattle.gw_members.specs.Chain.{in_time, rest}
+use Rattle.gw_members.specs.Members.{first_due}
 use Rattle.gw_members.specs.declared.tx.Event.{Event}
 use Rattle.gw_members.specs.declared.tx.Tx.{Tx}
 use Rattle.gw_plain_chains.specs.declared.event_chain.EventCall.{EventCall}
 use Rattle.gw_plain_chains.specs.declared.event_chain.EventCall.TheVariants.{Schedule, PopDue}
-
--- who leaves a chain that its first due leaves, if one is due
-abbrev pub first_due : ℤ → List Event → Option Tx
-first_due time xs = option_map (λ (e : Event). e.tx) (first (due (λ (e : Event). e.time) time xs))
 
 -- a chain with one more event, and one that its first due leaves, if one is due
 abbrev pub with_event : Event → BodyState Event → BodyState Event

@@ -1,15 +1,12 @@
 -- Lists of calls on a delay list with a walk over it: what they leave of it, and what they answer.
-use Rattle.std.specs.Prelude.{ℕ, ◌+◌, List, Option, None, option_map, is_some, if◌then◌else◌, slice_get, remove}
+use Rattle.std.specs.Prelude.{ℕ, ◌+◌, Option, None, is_some, if◌then◌else◌, remove}
 use Rattle.gw_plain_chains.specs.Calling.{BodyState}
 use Rattle.gw_members.specs.Chain.{behind}
+use Rattle.gw_members.specs.Members.{tx_at}
 use Rattle.gw_members.specs.declared.tx.Member.{Member}
 use Rattle.gw_members.specs.declared.tx.Tx.{Tx}
 use Rattle.gw_plain_chains.specs.declared.delay_chain.DelayCall.{DelayCall}
 use Rattle.gw_plain_chains.specs.declared.delay_chain.DelayCall.TheVariants.{Join, Remove, StartWalk, Pass, Take}
-
--- who is at a place, if anybody is
-abbrev pub tx_at : ℕ → List Member → Option Tx
-tx_at place xs = option_map (λ (m : Member). m.tx) (slice_get xs place)
 
 -- what a call answers: who was removed, passed or taken, if anybody was
 abbrev pub answer_of : DelayCall → BodyState Member → Option Tx

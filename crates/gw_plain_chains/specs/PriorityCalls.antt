@@ -2,14 +2,11 @@
 use Rattle.std.specs.Prelude.{List, Option, None, option_map}
 use Rattle.gw_plain_chains.specs.Calling.{BodyState}
 use Rattle.gw_members.specs.Chain.{behind, ahead, first, rest}
+use Rattle.gw_members.specs.Members.{first_tx}
 use Rattle.gw_members.specs.declared.tx.Member.{Member}
 use Rattle.gw_members.specs.declared.tx.Tx.{Tx}
 use Rattle.gw_plain_chains.specs.declared.priority_chain.PriorityCall.{PriorityCall}
 use Rattle.gw_plain_chains.specs.declared.priority_chain.PriorityCall.TheVariants.{InsertBehind, InsertAhead, PopFirst}
-
--- who is the first, if anybody is
-abbrev pub first_tx : List Member → Option Tx
-first_tx xs = option_map (λ (m : Member). m.tx) (first xs)
 
 -- a chain with one more member, behind its peers and ahead of them, and one without its first
 abbrev pub with_behind : Member → BodyState Member → BodyState Member

@@ -1,5 +1,5 @@
 -- A chain that is kept in two runs: its events, and its room, which is the settled run's, which the recent ones come to join.
-use Rattle.std.specs.Prelude.{◌≡◌, ℕ, ℤ, ◌+◌, ◌-◌, nat_le, int_lt, Bool, true, false, List, [], ◌∷◌, if◌then◌else◌}
+use Rattle.std.specs.Prelude.{◌≡◌, ◌<◌, ◌<ℤ◌, ℕ, ℤ, ◌+◌, ◌-◌, nat_le, int_lt, Bool, true, false, List, [], ◌∷◌, slice_index_or, if◌then◌else◌}
 use Rattle.std.specs.VecDeque.{deque_len, deque_capacity}
 use Rattle.std.specs.declared.collections.VecDeque.{VecDeque}
 use Rattle.gw_members.specs.Chain.{in_time}
@@ -25,9 +25,9 @@ most_recent = 512
 abbrev pub room_for : ℕ → ℕ → ℕ → ℕ
 room_for members settled recent = if nat_le most_recent recent then settled - members else 0
 
--- events with one more, behind all that are scheduled for the same time or an earlier one
-abbrev pub with_event : Event → List Event → List Event
-with_event event xs = in_time (λ (e : Event). e.time) event xs
+-- unless all of the first so many are passed, the event at a place is scheduled for later than a time
+abbrev pub IsLaterAt : ℤ → ℕ → ℕ → List Event → Type 0
+IsLaterAt time unseen place xs = (d : Event) → place < unseen → time <ℤ (slice_index_or xs place d).time
 
 module _ {Z : Type 0} where
   -- the events of both runs, by their times

@@ -1,7 +1,7 @@
 //! Calls on a chain, of a kind of its own for each list that has several bodies.
 
-ghost use Rattle.std.specs.Prelude.{◌≡◌, ◌≤◌, ◌<◌, ◌+◌, ◌++◌, ℕ, Option, OnOk, OnErr};
-ghost use Rattle.gw_plain_chains.specs.Calling.{BodyState, state_after, answers_in_turn};
+ghost use Rattle.std.specs.Prelude.{◌≡◌, ◌≤◌, ◌<◌, ◌+◌, ℕ, Option, OnOk, OnErr};
+ghost use Rattle.gw_plain_chains.specs.Calling.{BodyState, state_after, AddsOnOk};
 ghost use Rattle.gw_members.specs.declared.tx.Tx.{Tx as DeclaredTx};
 
 use gw_members::{Memory, Tx};
@@ -52,8 +52,7 @@ pub fn make_calls<M, K: ChainCall<M>, C: CallTarget<M, K>>(
 ) -> Result<(), Memory>
     ensures state { OnOk result
         (C.state chain.new ≡ state_after K.after calls.now (C.state chain.old)) }
-    ensures answers { let told = answers_in_turn K.after K.answer calls.now (C.state chain.old) in
-        OnOk result (answers.new.items ≡ answers.old.items ++ told) }
+    ensures answers { AddsOnOk K.after result K.answer calls.now (C.state chain.old) answers.old answers.new }
     ensures refused { OnErr result
         ((C.state chain.new ≡ C.state chain.old) × (answers.new.items ≡ answers.old.items)) }
 {

@@ -1,7 +1,8 @@
 //! What each body of a delay list does: the one in buckets, and the plain one.
 
 ghost use Rattle.std.specs.Prelude.{◌≡◌, ◌≤◌, ◌<◌, ◌+◌, length};
-ghost use Rattle.gw_plain_chains.specs.DelayCalls.{tx_at, with_member, without_member, past_member, without_current, after_call, answer_of};
+ghost use Rattle.gw_plain_chains.specs.DelayCalls.{with_member, without_member, past_member, without_current, after_call, answer_of};
+ghost use Rattle.gw_members.specs.Members.{tx_at};
 
 use crate::calls::{CallTarget, ChainBody, ChainCall};
 use gw_chains::DelayList;

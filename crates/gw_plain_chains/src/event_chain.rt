@@ -1,7 +1,8 @@
 //! What each body of a future events chain does: the one in chunks, and the plain one.
 
 ghost use Rattle.std.specs.Prelude.{◌≡◌, ◌≤◌, ◌<◌, ◌+◌};
-ghost use Rattle.gw_plain_chains.specs.Calls.{first_due, with_event, without_due, after_call, answer_of};
+ghost use Rattle.gw_plain_chains.specs.Calls.{with_event, without_due, after_call, answer_of};
+ghost use Rattle.gw_members.specs.Members.{first_due};
 
 use crate::calls::{CallTarget, ChainBody, ChainCall};
 use gw_chains::Fec;

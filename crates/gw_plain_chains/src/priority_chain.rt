@@ -1,7 +1,8 @@
 //! What each body of a current events chain does: the one in buckets, and the plain one.
 
 ghost use Rattle.std.specs.Prelude.{◌≡◌, ◌≤◌, ◌<◌, ◌+◌};
-ghost use Rattle.gw_plain_chains.specs.PriorityCalls.{first_tx, with_behind, with_ahead, without_first, after_call, answer_of};
+ghost use Rattle.gw_members.specs.Members.{first_tx};
+ghost use Rattle.gw_plain_chains.specs.PriorityCalls.{with_behind, with_ahead, without_first, after_call, answer_of};
 
 use crate::calls::{CallTarget, ChainBody, ChainCall};
 use gw_chains::Cec;

@@ -1,11 +1,9 @@
 //! A queue that is kept by priority.
 
-ghost use Rattle.std.specs.Prelude.{◌≡◌, ◌≤◌, ◌<◌, ◌+◌, true, false, int_le};
-ghost use Rattle.std.specs.List.Sorted.{IsPartitionPoint};
+ghost use Rattle.std.specs.Prelude.{◌≡◌, ◌≤◌, ◌<◌, ◌+◌};
 ghost use Rattle.std.specs.VecDeque.{deque_len, deque_capacity};
-ghost use Rattle.gw_members.specs.Chain.{behind};
-ghost use Rattle.gw_plain_chains.specs.Orders.{IsByPriority};
-ghost use Rattle.gw_members.specs.declared.tx.Member.{Member};
+ghost use Rattle.gw_plain_chains.specs.Orders.{IsByPriority, IsPlaceBehind};
+ghost use Rattle.gw_members.specs.Members.{behind_peers};
 
 use gw_chains::insert_reserved;
 use gw_members::{Member, Tx};
@@ -15,8 +13,7 @@ use std::collections::VecDeque;
 pub fn join_behind(queue: &mut VecDeque<Member>, tx: Tx, priority: i32)
     requires order { IsByPriority (λ m. m.priority) queue.old.items }
     requires room { deque_len queue.old < deque_capacity queue.old }
-    ensures items { let newcomer : Member = record { tx = tx; priority = priority } in
-        queue.new.items ≡ behind (λ m. m.priority) newcomer queue.old.items }
+    ensures items { queue.new.items ≡ behind_peers tx priority queue.old.items }
     ensures order { IsByPriority (λ m. m.priority) queue.new.items }
     ensures len { deque_len queue.new ≡ deque_len queue.old + 1 }
     ensures capacity { deque_capacity queue.old ≤ deque_capacity queue.new }
@@ -29,8 +26,7 @@ pub fn join_behind(queue: &mut VecDeque<Member>, tx: Tx, priority: i32)
 fn place_behind(queue: &VecDeque<Member>, priority: i32) -> usize
     requires { IsByPriority (λ m. m.priority) queue.now.items }
     ensures within { result ≤ deque_len queue.now }
-    ensures place { IsPartitionPoint (λ m. int_le priority m.priority ≡ true)
-        (λ m. int_le priority m.priority ≡ false) queue.now.items result }
+    ensures place { IsPlaceBehind priority queue.now.items result }
 {
     if let Some(last) = queue.back() {
         if priority <= last.priority {

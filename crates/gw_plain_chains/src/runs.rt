@@ -1,13 +1,14 @@
 //! A chain of events that is kept in two runs, so that a newcomer among tens of thousands moves few of them: the settled
 //! ones, and some recent ones, which join them many at a time.
 
-ghost use Rattle.std.specs.Prelude.{◌≡◌, ◌≤◌, ◌<◌, ◌+◌, ◌-◌, ◌≤ℤ◌, ◌<ℤ◌, [], All, int_lt, OnOk, OnErr, take, drop, slice_index_or, option_copied};
+ghost use Rattle.std.specs.Prelude.{◌≡◌, ◌≤◌, ◌<◌, ◌+◌, ◌-◌, ◌≤ℤ◌, [], All, int_lt, OnOk, OnErr, take, drop, option_copied};
 ghost use Rattle.std.specs.VecDeque.{deque_len, deque_capacity};
 ghost use Rattle.gw_plain_chains.specs.Orders.{IsInTime};
 ghost use Rattle.gw_members.specs.Chain.{first, rest};
 ghost use Rattle.gw_plain_chains.specs.Runs.{begins_recent};
-ghost use Rattle.gw_plain_chains.specs.Runs.{most_recent, with_event, events_in, many_in, room_in, HaveSame, HaveAsMany, HaveCapacities};
+ghost use Rattle.gw_plain_chains.specs.Runs.{most_recent, IsLaterAt, events_in, many_in, room_in, HaveSame, HaveAsMany, HaveCapacities};
 ghost use Rattle.gw_members.specs.declared.tx.Event.{Event as DeclaredEvent};
+ghost use Rattle.gw_members.specs.Members.{with_event};
 
 use gw_chains::insert_reserved;
 use gw_members::{Event, Memory};
@@ -107,8 +108,7 @@ fn count_passed(settled: &VecDeque<Event>, unseen: usize, event: Event) -> usize
     ensures bound { result ≤ unseen }
     ensures passed { All (λ (e : DeclaredEvent). e.time ≤ℤ event.time)
         (take result settled.now.items) }
-    ensures next { (d : DeclaredEvent) → result < unseen
-        → event.time <ℤ (slice_index_or settled.now.items result d).time }
+    ensures next { IsLaterAt event.time unseen result settled.now.items }
 {
     for i in 0..unseen {
         if is_earlier(event, settled[i]) {
@@ -162,8 +162,8 @@ pub(crate) fn insert(settled: &mut VecDeque<Event>, recent: &mut VecDeque<Event>
         ≡ with_event event (events_in settled.old recent.old) }
     ensures ordered { IsInTime (λ e. e.time) recent.new.items }
     ensures len { many_in settled.new recent.new ≡ many_in settled.old recent.old + 1 }
-    ensures capacity { (deque_capacity settled.new ≡ deque_capacity settled.old)
-        × (deque_capacity recent.old ≤ deque_capacity recent.new) }
+    ensures capacity { deque_capacity settled.new ≡ deque_capacity settled.old }
+    ensures recent { deque_capacity recent.old ≤ deque_capacity recent.new }
 {
     make_way(settled, recent);
     let place = recent.partition_point(|e| e.time <= event.time);

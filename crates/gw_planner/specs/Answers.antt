@@ -1,5 +1,7 @@
 -- What is asked of a model text or an object held in memory, and what answers it: a text and a status.
-use Rattle.std.specs.Prelude.{◌≡◌, ◌≢◌, ◌⊎◌, ℕ, List, ◌++◌, None, Some, option_to_list, is_none, Bool, true, false, not, ◌&&◌, MatchBool}
+use Rattle.std.specs.Prelude.{◌≡◌, ◌≢◌, ◌⊎◌, ℕ, List, ◌++◌, map, Vec, Option, None, Some, option_to_list, is_none, Bool, true, false, not, ◌&&◌, MatchBool}
+use Rattle.std.specs.Borrow.{Bor}
+use Rattle.std.specs.Global.{Global}
 use Rattle.std.specs.Option.{unwrap_or}
 use Rattle.gw_answers.specs.Status.{ended}
 use Rattle.gw_answers.specs.Answer.{IsAnswer}
@@ -81,6 +83,10 @@ is_plain o = is_none o.first && is_none o.figure && not o.csv
 -- the words as `NURSES=2,3`
 abbrev pub words_of : Choices → List (List ℕ)
 words_of o = option_to_list o.first ++ option_to_list o.second ++ option_to_list o.third
+
+-- a word is added, if there is one
+abbrev pub AddsWord : Vec (Bor (List ℕ)) Global → Vec (Bor (List ℕ)) Global → Option (List ℕ) → Type 0
+AddsWord old new word = map (λ w. w.now) new.items ≡ map (λ w. w.now) old.items ++ option_to_list word
 
 -- the form that is asked for
 abbrev pub IsFormOf : Choices → Form → Type 0

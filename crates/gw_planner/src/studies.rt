@@ -1,10 +1,10 @@
 //! Many runs of a model, or of two.
 
-ghost use Rattle.std.specs.Prelude.{◌≡◌, ◌++◌, map, option_map, option_to_list, IfOk, OnOk};
+ghost use Rattle.std.specs.Prelude.{◌≡◌, map, option_map, IfOk, OnOk};
 ghost use Rattle.gw_command_line.specs.Asking.{MayBeMade};
 ghost use Rattle.gw_command_line.specs.Words.{study_view};
 ghost use Rattle.gw_command_line.specs.Options.{view};
-ghost use Rattle.gw_planner.specs.Answers.{request_of as request_for, is_plain as plain, words_of as words_for, studied, studied_alone, studied_with, compared, IsFormOf, IsPair};
+ghost use Rattle.gw_planner.specs.Answers.{request_of as request_for, is_plain as plain, words_of as words_for, studied, studied_alone, studied_with, compared, AddsWord, IsFormOf, IsPair};
 
 use byteorder::{BigEndian, ByteOrder};
 use gw_alternatives::{Form, compare, study_points};
@@ -48,8 +48,8 @@ fn form_of<'a>(options: &Options<'a>) -> Form<'a>
 
 /// Adds a word, if there is one.
 fn put_word<'a>(words: &mut Vec<&'a [u8]>, word: Option<&'a str>) -> Result<(), Memory>
-    ensures { OnOk result (map (λ w. w.now) words.new.items
-        ≡ map (λ w. w.now) words.old.items ++ option_to_list (option_map (λ w. w.now) word.entry)) }
+    ensures { OnOk result
+        (AddsWord words.old words.new (option_map (λ w. w.now) word.entry)) }
 {
     if let Some(word) = word {
         words.push(word.as_bytes())?;

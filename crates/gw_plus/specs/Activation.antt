@@ -1,5 +1,5 @@
 -- What an activation of a procedure stands for, and what its steps tell.
-use Rattle.std.specs.Prelude.{◌≡◌, ℕ, ◌+◌, ◌-◌, ◌≤◌, ◌<◌, ℤ, List, [], ◌∷◌, length, map, slice_get, Option, Some, Result, Bool, false, if◌then◌else◌, not, ◌==◌, ◌&&◌, ◌||◌}
+use Rattle.std.specs.Prelude.{◌≡◌, ℕ, ◌+◌, ◌-◌, ◌≤◌, ◌<◌, ℤ, List, [], ◌∷◌, length, map, take, slice_get, slice_set, Option, Some, Result, Bool, false, if◌then◌else◌, not, ◌==◌, ◌&&◌, ◌||◌}
 use Rattle.gw_code.specs.Limits.{most_backs}
 use Rattle.gw_code.specs.Grammar.{is_back}
 use Rattle.gw_code.specs.declared.parts.Instruction.{Instruction}
@@ -15,7 +15,7 @@ use Rattle.gw_rules.specs.PlusLaws.{MayBegin, CodeHolds}
 use Rattle.gw_operands.specs.Results.{value_by_operand}
 use Rattle.gw_rules.specs.PlusChecks.{PlusPasses}
 use Rattle.gw_operands.specs.declared.ends.PlusEnd.{PlusEnd}
-use Rattle.gw_operands.specs.Meaning.{Taken, Frame, Next, Goes, Calls, Returns, Ends, Derives, opening, on, reads, calls, act}
+use Rattle.gw_operands.specs.Meaning.{Taken, Frame, Next, taken_at, take_once, Goes, Calls, Returns, Ends, Derives, opening, on, reads, calls, act}
 use Rattle.gw_plus.specs.Reading.{environment_of}
 use Rattle.gw_plus.specs.declared.env.Env.{Env}
 use Rattle.gw_plus.specs.declared.activation.Turns.{Turns}
@@ -36,6 +36,10 @@ taken_of turns = map (λ (t : Turns). (t.place, t.count)) turns
 -- where an activation stands
 abbrev pub frame_of : Activation → Frame
 frame_of a = record { place = a.place; stack = a.stack.items; locals = a.locals.items; taken = taken_of a.turns.items }
+
+-- a frame without the value on top of its stack
+abbrev pub without_top : Frame → Frame
+without_top f = record f { stack = take (length f.stack - 1) f.stack }
 
 -- where an activation begins that has these locals
 abbrev pub begun : List ℤ → Frame
@@ -58,6 +62,15 @@ is_taken (x ∷ xs) k = x.0 == k || is_taken xs k
 -- the BACK at k can be counted: it was taken before, or fewer were than there may be
 abbrev pub CanCount : Taken → ℕ → Type 0
 CanCount taken k = is_taken taken k ≡ false → length taken < most_backs
+
+-- the entry of a number is that for the BACK at k, which is counted as before
+abbrev pub HasEntry : ℕ → ℕ → List Turns → List Turns → Type 0
+HasEntry entry k old new = slice_get (taken_of new) entry ≡ Some (k, taken_at (taken_of old) k)
+
+-- the BACK at k was taken once more as soon as the entry of a number counts one more
+abbrev pub CountsByEntry : ℕ → ℕ → List Turns → List Turns → Type 0
+CountsByEntry entry k old new =
+    (n : ℕ) → n ≡ taken_at (taken_of old) k + 1 → slice_set (taken_of new) entry (k, n) ≡ take_once (taken_of old) k
 
 -- how many BACKs there are, among these instructions from number k on, that weren't taken yet
 abbrev pub untaken : Taken → ℕ → List Instruction → ℕ
@@ -111,6 +124,14 @@ next_read p env sna a = reads p (environment_of env) sna (frame_of a)
 -- what an instruction does
 abbrev pub next_of : Parts → Env → Instruction → Activation → Next
 next_of p env i a = act p (environment_of env) i (frame_of a)
+
+-- the VALUE of an attribute did so
+abbrev pub DoesRead : Parts → Env → Sna → Activation → Activation → Step → Type 0
+DoesRead p env sna old new step = Did p (Value sna) (next_read p env sna old) step (frame_of new)
+
+-- an instruction did what it does
+abbrev pub DoesInstruction : Parts → Env → Instruction → Activation → Activation → Step → Type 0
+DoesInstruction p env i old new step = Did p i (next_of p env i old) step (frame_of new)
 
 -- the instruction that comes next can be counted as a BACK
 abbrev pub CanCountNext : Activation → Type 0

@@ -1,15 +1,15 @@
 //! Activations of procedures: one small method for each instruction (docs/plus-code.md).
 
-ghost use Rattle.std.specs.Prelude.{◌≡◌, ◌≢◌, ◌≤◌, ◌<◌, ◌-◌, ◌+◌, ℕ, length, take, Some, slice_get, slice_set, IsTrue, ◌==◌};
+ghost use Rattle.std.specs.Prelude.{◌≡◌, ◌≢◌, ◌≤◌, ◌<◌, ℕ, length, Some, IsTrue, ◌==◌};
 ghost use Rattle.std.specs.List.{position};
 ghost use Rattle.gw_code.specs.Limits.{most_instructions, most_locals};
 ghost use Rattle.gw_code.specs.Grammar.{is_back};
 ghost use Rattle.gw_rules.specs.KindsLaws.{InstructionHolds};
 ghost use Rattle.gw_rules.specs.PlusLaws.{CodeHolds};
 ghost use Rattle.gw_operands.specs.Meaning as model;
-ghost use Rattle.gw_operands.specs.Meaning.{Goes, Stuck, on, pushed, calculated, taken_at, take_once, opened};
+ghost use Rattle.gw_operands.specs.Meaning.{Goes, Stuck, on, pushed, calculated, opened};
 ghost use Rattle.gw_plus.specs.Reading.{IsOf};
-ghost use Rattle.gw_plus.specs.Activation.{taken_of, frame_of, begun, top_of, next_read, next_of, finish_of, CanCount, CanCountNext, Did, Does, CallsAlone, DoesCall};
+ghost use Rattle.gw_plus.specs.Activation.{taken_of, frame_of, begun, top_of, next_read, next_of, finish_of, CanCount, CanCountNext, Does, CallsAlone, DoesCall, HasEntry, CountsByEntry, without_top, DoesRead, DoesInstruction};
 
 use crate::env::Env;
 use arrayvec::ArrayVec;
@@ -89,10 +89,8 @@ fn find_entry(turns: &[Turns], place: usize) -> Option<usize>
 fn entry_for(turns: &mut ArrayVec<Turns, 32>, place: usize) -> usize
     requires { CanCount (taken_of turns.old.items) place }
     ensures there { result < length turns.new.items }
-    ensures taken { slice_get (taken_of turns.new.items) result
-        ≡ Some (place, taken_at (taken_of turns.old.items) place) }
-    ensures once { (n : ℕ) → n ≡ taken_at (taken_of turns.old.items) place + 1
-        → slice_set (taken_of turns.new.items) result (place, n) ≡ take_once (taken_of turns.old.items) place }
+    ensures taken { HasEntry result place turns.old.items turns.new.items }
+    ensures once { CountsByEntry result place turns.old.items turns.new.items }
 {
     match find_entry(turns.as_slice(), place) {
         Some(entry) => entry,
@@ -147,8 +145,7 @@ impl Activation {
     fn take_top(&mut self) -> i64
         requires { 0 < length self.old.stack.items }
         ensures value { top_of self.old ≡ Some result }
-        ensures rest { let rest = take (length self.old.stack.items - 1) self.old.stack.items in
-            frame_of self.new ≡ record (frame_of self.old) { stack = rest } }
+        ensures rest { frame_of self.new ≡ without_top (frame_of self.old) }
     {
         let value = self.top();
         self.stack.truncate(self.stack.len() - 1);
@@ -220,8 +217,7 @@ impl Activation {
         requires holds { (locals : ℕ) × InstructionHolds parts.now locals (Instruction.Value sna) }
         requires going { next_read parts.now env.now sna self.old ≢ Stuck }
         requires place { self.old.place < most_instructions }
-        ensures { let next = next_read parts.now env.now sna self.old in
-            Did parts.now (Instruction.Value sna) next result (frame_of self.new) }
+        ensures { DoesRead parts.now env.now sna self.old self.new result }
     {
         let entities = parts.entities.as_slice();
         let operand = as_operand(sna);
@@ -338,8 +334,7 @@ impl Activation {
         requires going { next_of parts.now env.now instruction self.old ≢ Stuck }
         requires place { self.old.place < most_instructions }
         requires room { IsTrue (is_back instruction) → CanCountNext self.old }
-        ensures { let next = next_of parts.now env.now instruction self.old in
-            Did parts.now instruction next result (frame_of self.new) }
+        ensures { DoesInstruction parts.now env.now instruction self.old self.new result }
     {
         match instruction {
             Instruction::Push(value) => self.push_and_go(value),

@@ -1,7 +1,8 @@
 -- The points that parameters ask for, and their texts.
-use Rattle.std.specs.Prelude.{◌≡◌, ◌⊎◌, ℕ, ◌*◌, ◌/◌, ◌%◌, nat_lt, List, [], ◌∷◌, ◌++◌, length, slice_get, ℤ, codes, Bool, true, false, ◌||◌, if◌then◌else◌, Option, Some, None, Result, Ok, Err}
+use Rattle.std.specs.Prelude.{◌≡◌, ◌⊎◌, ℕ, ◌*◌, ◌/◌, ◌%◌, nat_lt, List, [], ◌∷◌, ◌++◌, length, slice_get, ℤ, codes, Bool, true, false, ◌||◌, if◌then◌else◌, Option, Some, None, Result, Ok, Err, MatchResult, Vec}
 use Rattle.std.specs.Option.{option_map_or}
 use Rattle.std.specs.Fmt.{signed_decimal}
+use Rattle.std.specs.Global.{Global}
 use Rattle.std.specs.Str.{str_eq_ignore_ascii_case}
 use Rattle.std.specs.Str.Lines.{lines}
 use Rattle.gw_points.specs.Parameters.{name_in, numbers_in, HasNoForm}
@@ -77,6 +78,11 @@ IsOnLine text parameter i made =
 abbrev pub HasNoLine : List ℕ → Parameter → NoPoint → Type 0
 HasNoLine text parameter none = IsRefused (lines text) parameter.name.items none
 
+-- such a text, or why there is none
+abbrev pub IsLineText : List ℕ → Parameter → ℕ → Result (Vec ℕ Global) NoPoint → Type 0
+IsLineText text parameter i result =
+    MatchResult result (λ made. IsOnLine text parameter i made.items) (HasNoLine text parameter)
+
 -- a text has a number of each of two names: the second goes through all its numbers first
 abbrev pub IsOnGrid : List ℕ → Parameter → Parameter → ℕ → List ℕ → Type 0
 IsOnGrid text first second point made =
@@ -87,6 +93,11 @@ IsOnGrid text first second point made =
 abbrev pub HasNoGrid : List ℕ → Parameter → Parameter → NoPoint → Type 0
 HasNoGrid text first second none =
     HasNoLine text first none ⊎ ((i : ℕ) × (middle : List ℕ) × IsOnLine text first i middle × HasNoLine middle second none)
+
+-- a text with a number of each of two names, or why there is none
+abbrev pub IsGridText : List ℕ → Parameter → Parameter → ℕ → Result (Vec ℕ Global) NoPoint → Type 0
+IsGridText text first second point result =
+    MatchResult result (λ made. IsOnGrid text first second point made.items) (HasNoGrid text first second)
 
 -- how many points there are
 abbrev pub count_of : Points → ℕ
@@ -105,6 +116,11 @@ abbrev pub HasNoPoint : List ℕ → Points → NoPoint → Type 0
 HasNoPoint text One none = none ≡ Memory
 HasNoPoint text (Line parameter) none = HasNoLine text parameter none
 HasNoPoint text (Grid first second) none = HasNoGrid text first second none
+
+-- that text, or why there is none
+abbrev pub IsPointText : List ℕ → Points → ℕ → Result (Vec ℕ Global) NoPoint → Type 0
+IsPointText text points point result =
+    MatchResult result (λ made. IsPoint text points point made.items) (HasNoPoint text points)
 
 -- WHAT A POINT IS CALLED
 

@@ -1,6 +1,7 @@
 -- The refusal of a parameter, as it is printed.
-use Rattle.std.specs.Prelude.{◌≡◌, ℕ, List, [], ◌++◌, codes, Option, Some, None}
+use Rattle.std.specs.Prelude.{◌≡◌, ℕ, List, [], ◌++◌, codes, Option, Some, None, Result, MatchResult, Vec}
 use Rattle.std.specs.Fmt.{decimal}
+use Rattle.std.specs.Global.{Global}
 use Rattle.gw_points.specs.declared.fault.NoPoint.{NoPoint}
 use Rattle.gw_points.specs.declared.fault.NoPoint.TheVariants.{Refused, Memory}
 use Rattle.gw_points.specs.declared.fault.ParameterFault.{ParameterFault}
@@ -41,6 +42,10 @@ reason fault = codes "\nwrong: " ++ reason_of fault ++ codes "\n"
 -- both
 abbrev pub refusal_text : List ℕ → ParameterFault → List ℕ
 refusal_text name fault = head name fault ++ reason fault
+
+-- this text, or want of memory
+abbrev pub Makes : List ℕ → Result (Vec ℕ Global) NoPoint → Type 0
+Makes text result = MatchResult result (λ made. made.items ≡ text) (λ none. none ≡ Memory)
 
 -- there is no point for this reason, or for want of memory
 abbrev pub Tells : List ℕ → ParameterFault → NoPoint → Type 0

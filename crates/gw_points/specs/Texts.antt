@@ -1,5 +1,7 @@
 -- A text with another number on the line of a name.
-use Rattle.std.specs.Prelude.{◌≡◌, ℕ, ◌+◌, ◌<◌, List, [], ◌∷◌, ◌++◌, slice_index_or, ℤ, is_some, ◌==◌, if◌then◌else◌, Option, Some, None, Result, MatchResult}
+use Rattle.std.specs.Prelude.{◌≡◌, ℕ, ◌+◌, ◌<◌, List, [], ◌∷◌, ◌++◌, slice_index_or, ℤ, is_some, ◌==◌, if◌then◌else◌, Option, Some, None, Result, MatchResult, Vec, map}
+use Rattle.std.specs.Borrow.{Bor}
+use Rattle.std.specs.Global.{Global}
 use Rattle.gw_points.specs.Operands.{operand_of, cut_of, joined}
 use Rattle.gw_points.specs.Refusals.{refusal_text}
 use Rattle.gw_points.specs.declared.fault.NoPoint.{NoPoint}
@@ -25,6 +27,14 @@ line_or i number other line = if i == number then other else line
 unfoldable pub text_from : ℕ → ℕ → List ℕ → List (List ℕ) → List ℕ
 text_from i number other [] = []
 text_from i number other (line ∷ lines) = (line_or i number other line ++ 10 ∷ []) ++ text_from (i + 1) number other lines
+
+-- the text of lines where that of a number is another
+abbrev pub text_with_line : ℕ → List ℕ → List (Bor (List ℕ)) → List ℕ
+text_with_line number other lines = text_from 0 number other (map (λ line. line.now) lines)
+
+-- the same, where that line is cut and a number put in between
+abbrev pub text_with_value : ℕ → ℤ → List ℕ × List ℕ → List (Bor (List ℕ)) → List ℕ
+text_with_value number value cut lines = text_with_line number (joined value cut) lines
 
 -- a text has these lines, but for another number on the one line of a name
 pub record IsRenumbered (lines : List (List ℕ)) (name : List ℕ) (value : ℤ) (text : List ℕ) : Type 0 where
@@ -67,3 +77,8 @@ IsOne name lines result = MatchResult result (λ number. lines_of name 0 lines �
 abbrev pub IsRefused : List (List ℕ) → List ℕ → NoPoint → Type 0
 IsRefused lines name (Refused text) = (fault : ParameterFault) × (text.items ≡ refusal_text name fault) × HasNoPlace lines name fault
 IsRefused lines name Memory = Unit {0}
+
+-- the text of lines with another number on the one line of a name, or why there is none
+abbrev pub IsTextWith : List (List ℕ) → List ℕ → ℤ → Result (Vec ℕ Global) NoPoint → Type 0
+IsTextWith lines name value result =
+    MatchResult result (λ text. IsRenumbered lines name value text.items) (IsRefused lines name)

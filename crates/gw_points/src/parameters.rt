@@ -1,11 +1,11 @@
 //! What `NURSES=2,3` asks for.
 
 ghost use Rattle.std.specs.Prelude.{◌≡◌, ◌≤◌, ◌==◌, length, ◌∷◌, [], Some, IfOk, option_copied, option_map};
-ghost use Rattle.std.specs.Option.{option_map_or};
 ghost use Rattle.std.specs.Char.{is_ascii_digit};
 ghost use Rattle.std.specs.List.{list_all, slice_split, position_or_len};
 ghost use Rattle.gw_num.specs.Numerals.{is_number as has_digits};
 ghost use Rattle.gw_points.specs.Parameters as model;
+ghost use Rattle.gw_points.specs.Parameters.{words_left};
 
 use crate::fault::{NoPoint, ParameterFault, no_point};
 use gw_object::Memory;
@@ -74,7 +74,7 @@ fn place_of(bytes: &[u8], byte: u8) -> usize
 #[tactic(auto, using(crate::proofs::Parting::cut_first, crate::proofs::Parting::cut_none))]
 fn cut(words: &[u8]) -> (&[u8], Option<&[u8]>)
     ensures { slice_split model.is_comma words.now
-        ≡ result.0.now ∷ option_map_or (λ rest. slice_split model.is_comma rest.now) result.1 [] }
+        ≡ result.0.now ∷ words_left (option_copied result.1) }
 {
     let end = place_of(words, b',');
     if end < words.len() {

@@ -1,7 +1,8 @@
 //! Points: the texts that parameters make of one.
 
-ghost use Rattle.std.specs.Prelude.{◌≡◌, ◌<◌, ◌≤◌, ◌*◌, ◌++◌, ◌∷◌, [], Some, length, map, slice_get, IfOk, OnOk, MatchResult};
+ghost use Rattle.std.specs.Prelude.{◌≡◌, ◌<◌, ◌≤◌, ◌*◌, ◌++◌, ◌∷◌, [], Some, length, map, slice_get, IfOk, OnOk};
 ghost use Rattle.gw_points.specs.Points as model;
+ghost use Rattle.gw_points.specs.Refusals.{Makes};
 
 use crate::fault::{NoPoint, ParameterFault, no_point};
 use crate::parameters::{Parameter, name_before, parameter_in};
@@ -127,7 +128,7 @@ pub fn points_of(alloc: Global, words: &[&[u8]]) -> Result<Points, NoPoint>
 
 /// A copy of a text.
 fn copy_of(alloc: Global, text: &[u8]) -> Result<Vec<u8>, NoPoint>
-    ensures { MatchResult result (λ made. made.items ≡ text.now) (λ none. none ≡ NoPoint.Memory) }
+    ensures { Makes text.now result }
 {
     let mut made = Vec::new(alloc);
     match made.extend_from_slice(text) {
@@ -152,8 +153,7 @@ fn text_on_line(
     i: usize,
 ) -> Result<Vec<u8>, NoPoint>
     requires { i < length parameter.now.values.items }
-    ensures { MatchResult result (λ made. model.IsOnLine text.now parameter.now i made.items)
-        (model.HasNoLine text.now parameter.now) }
+    ensures { model.IsLineText text.now parameter.now i result }
 {
     text_with(alloc, text, &parameter.name, value_at(parameter, i))
 }
@@ -167,8 +167,7 @@ fn text_on_grid(
     point: usize,
 ) -> Result<Vec<u8>, NoPoint>
     requires { point < length first.now.values.items * length second.now.values.items }
-    ensures { MatchResult result (λ made. model.IsOnGrid text.now first.now second.now point made.items)
-        (model.HasNoGrid text.now first.now second.now) }
+    ensures { model.IsGridText text.now first.now second.now point result }
 {
     let count = second.values.len();
     match text_on_line(alloc, text, first, point / count) {
@@ -195,8 +194,7 @@ impl Points {
     /// A name that the text gives no number, or more than one line, is refused (83 Parameter).
     pub fn text_at(&self, alloc: Global, text: &[u8], point: usize) -> Result<Vec<u8>, NoPoint>
         requires { point < model.count_of self.now }
-        ensures { MatchResult result (λ made. model.IsPoint text.now self.now point made.items)
-            (model.HasNoPoint text.now self.now) }
+        ensures { model.IsPointText text.now self.now point result }
     {
         match self {
             Points::One => copy_of(alloc, text),

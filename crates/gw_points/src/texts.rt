@@ -1,9 +1,11 @@
 //! A text with another number on the line of a name.
 
-ghost use Rattle.std.specs.Prelude.{◌≡◌, ◌<◌, ◌++◌, ◌∷◌, [], map, length, slice_index_or, is_some, IfOk, IfErr, OnOk, MatchResult};
+ghost use Rattle.std.specs.Prelude.{◌≡◌, ◌<◌, ◌++◌, ◌∷◌, [], map, length, slice_index_or, is_some, IfOk, OnOk};
 ghost use Rattle.std.specs.Str.Lines.{lines as lines_of_text};
 ghost use Rattle.gw_points.specs.Operands.{operand_of as operand, joined};
+ghost use Rattle.gw_points.specs.Refusals.{Makes};
 ghost use Rattle.gw_points.specs.Texts as model;
+ghost use Rattle.gw_points.specs.Texts.{text_with_value};
 
 use crate::fault::{NoPoint, ParameterFault, no_point};
 use crate::operands::{cut_of, operand_of};
@@ -77,8 +79,8 @@ fn line_or<'a>(i: usize, number: usize, other: &'a [u8], line: &'a [u8]) -> &'a 
 /// All lines, each with its end, where that of a number is another.
 #[tactic(auto, unfolding(crate::specs::Texts::text_from))]
 fn put_lines(out: &mut Vec<u8>, lines: &[&[u8]], number: usize, other: &[u8]) -> Result<(), Memory>
-    ensures { OnOk result (out.new.items ≡ out.old.items
-        ++ model.text_from 0 number other.now (map (λ l. l.now) lines.now)) }
+    ensures { OnOk result
+        (out.new.items ≡ out.old.items ++ model.text_with_line number other.now lines.now) }
 {
     for i in 0..lines.len() {
         put_line(out, line_or(i, number, other, lines[i]))?;
@@ -95,8 +97,8 @@ fn text_of(
     rest: &[u8],
     value: i64,
 ) -> Result<Vec<u8>, Memory>
-    ensures { IfOk result (λ text. text.items
-        ≡ model.text_from 0 number (joined value (before.now, rest.now)) (map (λ l. l.now) lines.now)) }
+    ensures { IfOk result (λ t.
+        t.items ≡ text_with_value number value (before.now, rest.now) lines.now) }
 {
     let other = joined_line(alloc, before, rest, value)?;
     let mut text = Vec::new(alloc);
@@ -113,9 +115,7 @@ fn text_if_room(
     rest: &[u8],
     value: i64,
 ) -> Result<Vec<u8>, NoPoint>
-    ensures { MatchResult result (λ text. text.items
-        ≡ model.text_from 0 number (joined value (before.now, rest.now)) (map (λ l. l.now) lines.now))
-        (λ none. none ≡ NoPoint.Memory) }
+    ensures { Makes (text_with_value number value (before.now, rest.now) lines.now) result }
 {
     match text_of(alloc, lines, number, before, rest, value) {
         Ok(text) => Ok(text),
@@ -133,9 +133,7 @@ fn text_at(
 ) -> Result<Vec<u8>, NoPoint>
     requires within { number < length lines.now }
     requires one { model.lines_of name.now 0 (map (λ l. l.now) lines.now) ≡ number ∷ [] }
-    ensures { let ls = map (λ l. l.now) lines.now in
-        MatchResult result (λ text. model.IsRenumbered ls name.now value text.items)
-        (model.IsRefused ls name.now) }
+    ensures { model.IsTextWith (map (λ l. l.now) lines.now) name.now value result }
 {
     match cut_of(line_at(lines, number), name) {
         Some((before, rest)) => text_if_room(alloc, lines, number, before, rest, value),
@@ -150,9 +148,7 @@ fn text_of_lines(
     name: &[u8],
     value: i64,
 ) -> Result<Vec<u8>, NoPoint>
-    ensures { let ls = map (λ l. l.now) lines.now in
-        MatchResult result (λ text. model.IsRenumbered ls name.now value text.items)
-        (model.IsRefused ls name.now) }
+    ensures { model.IsTextWith (map (λ l. l.now) lines.now) name.now value result }
 {
     match number_of(lines, name) {
         Ok(number) => text_at(alloc, lines, number, name, value),
@@ -166,9 +162,7 @@ fn text_of_lines(
 ///
 /// A name that no line or more than one gives a number is refused (83 Parameter), and so is another operand than a number.
 pub fn text_with(alloc: Global, text: &[u8], name: &[u8], value: i64) -> Result<Vec<u8>, NoPoint>
-    ensures { let ls = lines_of_text text.now in
-        MatchResult result (λ made. model.IsRenumbered ls name.now value made.items)
-        (model.IsRefused ls name.now) }
+    ensures { model.IsTextWith (lines_of_text text.now) name.now value result }
 {
     match lines_of(alloc, text) {
         Ok(lines) => text_of_lines(alloc, &lines, name, value),

@@ -28,6 +28,7 @@ use Rattle.gw_text_statements.specs.declared.model.Switching.{Switching}
 use Rattle.gw_text_statements.specs.declared.model.Switching.TheVariants as switchings
 use Rattle.gw_text.specs.declared.model.Statement.{Statement}
 use Rattle.gw_compile.specs.Numbers.{Numbers}
+use Rattle.gw_records.specs.declared.blocks.Reading.{Reading}
 use Rattle.gw_records.specs.Operands.{value_in, procedure_at, entity_in, block_in, optional_block_in, priority_in, count_in, optional_whole_in, optional_count_in, parameter_in, optional_parameter_in, mode_in, order_in, is_written}
 
 -- WHAT IS MADE OF PARTS
@@ -73,6 +74,10 @@ action_of switchings.Reset = actions.Reset
 action_of switchings.Invert = actions.Invert
 
 -- RECORDS
+
+-- what is made by what operands are read by: by the numbers of names, and by the procedures that operands become
+abbrev pub by_reading : {N A : Type 0} → (N → Numbers) → Reading N → (Numbers → List (Option ℕ) → A) → A
+by_reading numbers reading make = make (numbers reading.names.now) reading.procedures.now
 
 -- GENERATE, with this interval
 abbrev pub generate_of : Option Spread → Text → Text → Text → Option Block

@@ -4,6 +4,7 @@ ghost use Rattle.std.specs.Prelude.{◌≡◌, ◌∷◌, [], Some};
 ghost use Rattle.gw_text_tokens.specs.declared.words.Word.TheVariants as words;
 ghost use Rattle.gw_text_statements.specs.declared.model.Operand.TheVariants as texts;
 ghost use Rattle.gw_records.specs.Records as model;
+ghost use Rattle.gw_records.specs.Records.{by_reading};
 
 use crate::operands::*;
 use crate::operators::{action_of, asked_of, comparison_of, condition_of, mode_of};
@@ -44,16 +45,14 @@ struct Reading<'a, N: Numbering> {
 impl<N: Numbering> Reading<'_, N> {
     /// The value of the operand at a position.
     fn value_at(&self, position: usize, operand: &Text) -> Option<Operand>
-        ensures { result ≡ model.value_at (N.numbers self.now.names.now) self.now.procedures.now
-            position operand.now }
+        ensures { result ≡ by_reading N.numbers self.now model.value_at position operand.now }
     {
         value_of(self.names, procedure_at(self.procedures, position), operand)
     }
 
     /// A time, of operands that are the first two.
     fn time_of(&self, mean: &Text, half: &Text) -> Option<Spread>
-        ensures { result ≡ model.time_in (N.numbers self.now.names.now) self.now.procedures.now
-            mean.now half.now }
+        ensures { result ≡ by_reading N.numbers self.now model.time_in mean.now half.now }
     {
         Some(Spread {
             mean: self.value_at(0, mean)?,
@@ -74,8 +73,7 @@ impl<N: Numbering> Reading<'_, N> {
 
     /// TEST.
     fn test_of(&self, test: Test, left: &Text, right: &Text, otherwise: &Text) -> Option<Block>
-        ensures { result ≡ model.test_of (N.numbers self.now.names.now) self.now.procedures.now
-            test left.now right.now otherwise.now }
+        ensures { result ≡ by_reading N.numbers self.now model.test_of test left.now right.now otherwise.now }
     {
         Some(Block::Test(gw_blocks::Test {
             comparison: comparison_of(test),
@@ -99,8 +97,7 @@ impl<N: Numbering> Reading<'_, N> {
 
     /// ASSIGN.
     fn assign_of(&self, modifier: Option<Modifier>, parameter: &Text, value: &Text) -> Option<Block>
-        ensures { result ≡ model.assign_of (N.numbers self.now.names.now) self.now.procedures.now
-            modifier parameter.now value.now }
+        ensures { result ≡ by_reading N.numbers self.now model.assign_of modifier parameter.now value.now }
     {
         Some(Block::Assign(Assign {
             parameter: parameter_of(self.names, parameter)?,
@@ -111,8 +108,7 @@ impl<N: Numbering> Reading<'_, N> {
 
     /// SAVEVALUE.
     fn save_of(&self, modifier: Option<Modifier>, savevalue: &Text, value: &Text) -> Option<Block>
-        ensures { result ≡ model.save_of (N.numbers self.now.names.now) self.now.procedures.now
-            modifier savevalue.now value.now }
+        ensures { result ≡ by_reading N.numbers self.now model.save_of modifier savevalue.now value.now }
     {
         Some(Block::Savevalue(Save {
             savevalue: entity_of(self.names, EntityKind::Savevalue, savevalue)?,
@@ -207,8 +203,7 @@ impl<N: Numbering> Reading<'_, N> {
 
     /// PRIORITY.
     fn priority_block_of(&self, value: &Text, behind: &Text) -> Option<Block>
-        ensures { result ≡ model.priority_of (N.numbers self.now.names.now) self.now.procedures.now
-            value.now behind.now }
+        ensures { result ≡ by_reading N.numbers self.now model.priority_of value.now behind.now }
     {
         Some(Block::Priority(Priority {
             value: self.value_at(0, value)?,
@@ -218,8 +213,7 @@ impl<N: Numbering> Reading<'_, N> {
 
     /// PLUS.
     fn plus_of(&self, value: &Text, parameter: &Text) -> Option<Block>
-        ensures { result ≡ model.plus_of (N.numbers self.now.names.now) self.now.procedures.now
-            value.now parameter.now }
+        ensures { result ≡ by_reading N.numbers self.now model.plus_of value.now parameter.now }
     {
         Some(Block::Plus(Plus {
             value: self.value_at(0, value)?,
@@ -229,8 +223,7 @@ impl<N: Numbering> Reading<'_, N> {
 
     /// A block of one operand.
     fn of_one(&self, word: Word, modifier: Option<Modifier>, operand: &Text) -> Option<Block>
-        ensures { result ≡ model.block_of (N.numbers self.now.names.now) self.now.procedures.now
-            word modifier (operand.now ∷ []) }
+        ensures { result ≡ by_reading N.numbers self.now model.block_of word modifier (operand.now ∷ []) }
     {
         match word {
             Word::Terminate => self.value_at(0, operand).map(Block::Terminate),
@@ -278,8 +271,7 @@ impl<N: Numbering> Reading<'_, N> {
 
     /// A block of two operands.
     fn of_two(&self, word: Word, modifier: Option<Modifier>, a: &Text, b: &Text) -> Option<Block>
-        ensures { result ≡ model.block_of (N.numbers self.now.names.now) self.now.procedures.now
-            word modifier (a.now ∷ b.now ∷ []) }
+        ensures { result ≡ by_reading N.numbers self.now model.block_of word modifier (a.now ∷ b.now ∷ []) }
     {
         match word {
             Word::Advance => self.time_of(a, b).map(Block::Advance),
@@ -312,7 +304,7 @@ impl<N: Numbering> Reading<'_, N> {
         b: &Text,
         c: &Text,
     ) -> Option<Block>
-        ensures { result ≡ model.block_of (N.numbers self.now.names.now) self.now.procedures.now
+        ensures { result ≡ by_reading N.numbers self.now model.block_of
             word modifier (a.now ∷ b.now ∷ c.now ∷ []) }
     {
         match word {

@@ -56,6 +56,18 @@ figures_of_entity s e =
 abbrev pub classes_of : State → ℕ → List ℕ
 classes_of s e = (table_at e s.entities.tables).classes
 
+-- those of each block of a job and its state, in order
+abbrev pub block_figures : Progress → List BlockFigures
+block_figures p = map (figures_of_block p.state) (range_with_len 1 (length p.job.parts.blocks))
+
+-- those of each entity
+abbrev pub entity_figures : Progress → List EntityFigures
+entity_figures p = map (figures_of_entity p.state) (range_with_len 0 (length p.job.parts.entities))
+
+-- and the classes of each
+abbrev pub entity_classes : Progress → List (List ℕ)
+entity_classes p = map (classes_of p.state) (range_with_len 0 (length p.job.parts.entities))
+
 -- the figures of a job and its state
 abbrev pub figures_of : Progress → Figures
 figures_of p =
@@ -65,9 +77,9 @@ figures_of p =
       steps = p.state.steps;
       entries = sum p.state.entries;
       count = p.state.count;
-      blocks = map (figures_of_block p.state) (range_with_len 1 (length p.job.parts.blocks));
-      entities = map (figures_of_entity p.state) (range_with_len 0 (length p.job.parts.entities));
-      classes = map (classes_of p.state) (range_with_len 0 (length p.job.parts.entities));
+      blocks = block_figures p;
+      entities = entity_figures p;
+      classes = entity_classes p;
     }
 
 -- OF A PLACE

@@ -64,6 +64,10 @@ average_text a =
     decimal a.whole ++ codes "." ++ decimal (a.thousandths / 100) ++ decimal (a.thousandths / 10 % 10)
     ++ decimal (a.thousandths % 10)
 
+-- an average of this whole part and so many thousandths
+abbrev pub quotient_text : ℕ → ℕ → List ℕ
+quotient_text whole thousandths = average_text (record { whole = whole; thousandths = thousandths })
+
 -- the average over the clock of what sums up to this
 abbrev pub average_so_far : ℕ → Figures → List ℕ
 average_so_far time_sum f = average_text (average time_sum (unsigned_abs f.clock))

@@ -1,7 +1,7 @@
 //! Averages over the clock.
 
 ghost use Rattle.std.specs.Prelude.{◌≡◌, ◌++◌};
-ghost use Rattle.gw_report.specs.Report.{Puts, average_text, average_so_far};
+ghost use Rattle.gw_report.specs.Report.{Puts, average_so_far, quotient_text};
 ghost use Rattle.gw_entities.specs.Average.{average};
 
 use crate::figures::Figures;
@@ -36,8 +36,7 @@ fn average_of(sum: u128, clock: u64) -> Quotient
 
 /// A text, and a quotient after it, with three digits of thousandths.
 fn put_quotient(out: &mut Vec<u8>, text: &str, quotient: Quotient) -> Result<(), Memory>
-    ensures { Puts result out.old out.new (text.now
-        ++ average_text (record { whole = quotient.whole; thousandths = quotient.thousandths })) }
+    ensures { Puts result out.old out.new (text.now ++ quotient_text quotient.whole quotient.thousandths) }
 {
     let thousandths = quotient.thousandths;
     put_number(out, text, quotient.whole)?;

@@ -1,9 +1,8 @@
 //! The figures of a state: what its report tells, as exact numbers.
 
 ghost use Rattle.std.specs.Prelude.{◌≡◌, ◌<◌, ◌≤◌, ◌+◌, length, map, IfOk};
-ghost use Rattle.std.specs.List.{range_with_len};
 ghost use Rattle.gw_report.specs.Figures as model;
-ghost use Rattle.gw_report.specs.Figures.{figures_of, figures_of_block, figures_of_entity, figures_of_table, classes_of};
+ghost use Rattle.gw_report.specs.Figures.{figures_of, figures_of_entity, figures_of_table, block_figures, entity_figures, entity_classes};
 
 use crate::entries::{BlockFigures, EntityFigures, TableFigures};
 use gw_object::Memory;
@@ -45,8 +44,7 @@ impl Model for Figures {
 
 /// The figures of each block, in order.
 fn blocks_of(alloc: Global, sim: &Sim) -> Result<Vec<BlockFigures>, Memory>
-    ensures { IfOk result (λ blocks. blocks.items
-        ≡ map (figures_of_block sim.now.state) (range_with_len 1 (length sim.now.job.parts.blocks))) }
+    ensures { IfOk result (λ blocks. blocks.items ≡ block_figures sim.now) }
 {
     let number = sim
         .spec()
@@ -98,8 +96,7 @@ fn entity_of(sim: &Sim, number: u16) -> EntityFigures
 
 /// The figures of each entity, in order.
 fn entities_of(alloc: Global, sim: &Sim) -> Result<Vec<EntityFigures>, Memory>
-    ensures { IfOk result (λ entities. entities.items
-        ≡ map (figures_of_entity sim.now.state) (range_with_len 0 (length sim.now.job.parts.entities))) }
+    ensures { IfOk result (λ entities. entities.items ≡ entity_figures sim.now) }
 {
     let number = sim
         .spec()
@@ -118,8 +115,7 @@ fn entities_of(alloc: Global, sim: &Sim) -> Result<Vec<EntityFigures>, Memory>
 
 /// How many values each class of each table has, in order; of another entity there is none.
 fn classes_of_tables(alloc: Global, sim: &Sim) -> Result<Vec<Vec<u64>>, Memory>
-    ensures { IfOk result (λ classes. map (λ c. c.items) classes.items
-        ≡ map (classes_of sim.now.state) (range_with_len 0 (length sim.now.job.parts.entities))) }
+    ensures { IfOk result (λ classes. map (λ c. c.items) classes.items ≡ entity_classes sim.now) }
 {
     let number = sim
         .spec()

@@ -15,6 +15,10 @@ IsLine line text = text ≡ line ++ 10 ∷ []
 abbrev pub IsInRange : Row → Type 0
 IsInRange row = (row.number < 512) × (1 ≤ row.origin.count) × (row.origin.count ≤ 2 ^ 40)
 
+-- a line is that of a row, by figures
+abbrev pub IsRowLine : List Figure → List ℕ → Row → Type 0
+IsRowLine figures line row = IsLine line (rows.row_by figures row.origin row.number row.run)
+
 -- a line is that of a row
 abbrev pub IsLineOf : List Label → List ℕ → Row → Type 0
 IsLineOf labels line row = IsLine line (rows.row labels (rows.source_of row.origin) row.number row.run) × IsInRange row

@@ -1,6 +1,7 @@
 -- A refusal as a row.
 use Rattle.std.specs.Prelude.{ℕ, ◌==◌, List, [], ◌∷◌, ◌++◌, codes, if◌then◌else◌}
 use Rattle.csv.specs.Writing.{row_text, default_writer}
+use Rattle.gw_rows.specs.declared.refusal.Refused.{Refused}
 
 -- a byte as it stands in a field of one line
 abbrev pub byte_in_line : ℕ → List ℕ
@@ -18,6 +19,9 @@ refusal_header = codes "model,refusal\n"
 
 abbrev pub refusal_row : List ℕ → List ℕ → List ℕ
 refusal_row model why = row_text default_writer (model ∷ in_one_line why ∷ [])
+
+abbrev pub row_of_refusal : Refused → List ℕ
+row_of_refusal refused = refusal_row refused.model.items refused.text.items
 
 abbrev pub refusal_rows : List ℕ → List ℕ → List ℕ
 refusal_rows model why = refusal_header ++ refusal_row model why

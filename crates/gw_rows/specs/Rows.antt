@@ -1,12 +1,13 @@
 -- Rows: a run, and of what it is one, as a line of CSV.
-use Rattle.std.specs.Prelude.{ℕ, ◌+◌, ◌==◌, List, [], ◌∷◌, ◌++◌, map, codes, ℤ, Option, Vec, if◌then◌else◌}
+use Rattle.std.specs.Prelude.{◌≡◌, ℕ, ◌+◌, ◌==◌, List, [], ◌∷◌, ◌++◌, map, codes, ℤ, Option, Result, OnOk, Vec, if◌then◌else◌}
 use Rattle.std.specs.Fmt.{decimal}
 use Rattle.std.specs.Global.{Global}
 use Rattle.csv.specs.Writing.{row_text, default_writer}
 use Rattle.gw_scan.specs.declared.sim.Status.TheVariants.{Ended}
 use Rattle.gw_report.specs.Report.{status_word}
-use Rattle.gw_figures.specs.Labels.{Label}
+use Rattle.gw_figures.specs.Labels.{Label, labels}
 use Rattle.gw_figures.specs.Trends.{value_at}
+use Rattle.gw_figures.specs.declared.figure.Figure.{Figure}
 use Rattle.gw_figures.specs.declared.run.Overdraw.{Overdraw}
 use Rattle.gw_figures.specs.declared.run.Run.{Run}
 use Rattle.gw_rows.specs.Amounts.{amount_field}
@@ -16,6 +17,10 @@ use Rattle.gw_rows.specs.declared.origin.Origin.{Origin}
 -- what fields say
 abbrev pub texts : List (Vec ℕ Global) → List (List ℕ)
 texts fields = map (λ f. f.items) fields
+
+-- where all went well, fields are added to others
+abbrev pub AddsFields : {E : Type 0} → Result (Unit {0}) E → Vec (Vec ℕ Global) Global → Vec (Vec ℕ Global) Global → List (List ℕ) → Type 0
+AddsFields result old new added = OnOk result (texts new.items ≡ texts old.items ++ added)
 
 -- how many rows there are in all: empty where that isn't known
 abbrev pub rows_field : ℕ → List ℕ
@@ -74,7 +79,15 @@ fields labels s number run =
 unfoldable pub row : List Label → Source → ℕ → Run → List ℕ
 row labels s number run = row_text default_writer (fields labels s number run)
 
+-- the same by figures, and by what the run is one of
+abbrev pub row_by : List Figure → Origin → ℕ → Run → List ℕ
+row_by figures origin number run = row (labels figures) (source_of origin) number run
+
 -- the rows of runs that follow one another, from one on
 abbrev pub rows_from : List Label → Source → ℕ → List Run → List ℕ
 rows_from labels s number [] = []
 rows_from labels s number (run ∷ runs) = row labels s number run ++ rows_from labels s (number + 1) runs
+
+-- the same by figures, and by what the runs are some of
+abbrev pub rows_by : List Figure → Origin → ℕ → List Run → List ℕ
+rows_by figures origin number runs = rows_from (labels figures) (source_of origin) number runs

@@ -1,9 +1,8 @@
 //! Reading rows.
 
-ghost use Rattle.std.specs.Prelude.{◌≡◌, IfOk, IfSome, IsTrue};
+ghost use Rattle.std.specs.Prelude.{IfOk, IfSome, IsTrue};
 ghost use Rattle.gw_figures.specs.Labels.{labels};
-ghost use Rattle.gw_rows.specs.Rows as model;
-ghost use Rattle.gw_rows.specs.Reading.{IsLine, IsLineOf, IsInRange};
+ghost use Rattle.gw_rows.specs.Reading.{IsInRange, IsLineOf, IsRowLine};
 
 use crate::amounts::{amount_in, number_in};
 use crate::ends::end_in;
@@ -97,8 +96,7 @@ fn row_of(alloc: Global, parts: &[&[u8]], figures: &[Figure]) -> Result<Row, Mem
 
 /// Whether a line is that of a row.
 fn is_line_of(alloc: Global, line: &[u8], figures: &[Figure], row: &Row) -> Result<bool, Memory>
-    ensures { IfOk result (λ is. IsTrue is → IsLine line.now
-        (model.row (labels figures.now) (model.source_of row.now.origin) row.now.number row.now.run)) }
+    ensures { IfOk result (λ is. IsTrue is → IsRowLine figures.now line.now row.now) }
 {
     let mut again = Vec::new(alloc);
     put_row(

@@ -122,8 +122,8 @@ fn fields_in(alloc: Global, record: &ByteRecord) -> Result<Refused, Memory> {
 
 /// Whether a line is that of a refusal's row.
 fn is_line_of(alloc: Global, line: &[u8], refused: &Refused) -> Result<bool, Memory>
-    ensures { IfOk result (λ is. IsTrue is → IsLine line.now
-        (model.refusal_row refused.now.model.items refused.now.text.items)) }
+    ensures { IfOk result (λ is.
+        IsTrue is → IsLine line.now (model.row_of_refusal refused.now)) }
 {
     let mut again = Vec::new(alloc);
     put_row(alloc, &mut again, &refused.model, &refused.text)?;
@@ -132,8 +132,8 @@ fn is_line_of(alloc: Global, line: &[u8], refused: &Refused) -> Result<bool, Mem
 
 /// The refusal of a line without its line feed, if it is the row of one.
 pub fn refused_in(alloc: Global, line: &[u8]) -> Result<Option<Refused>, Memory>
-    ensures { IfOk result (λ found. IfSome found (λ refused. IsLine line.now
-        (model.refusal_row refused.model.items refused.text.items))) }
+    ensures { IfOk result (λ found.
+        IfSome found (λ refused. IsLine line.now (model.row_of_refusal refused))) }
 {
     let record = record_in(alloc, line)?;
     let refused = fields_in(alloc, &record)?;

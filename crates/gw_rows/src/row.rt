@@ -5,7 +5,7 @@ ghost use Rattle.gw_figures.specs.Labels.{label_of, labels};
 ghost use Rattle.gw_figures.specs.Trends.{value_at};
 ghost use Rattle.gw_rows.specs.Amounts.{amount_field as amount_text};
 ghost use Rattle.gw_rows.specs.Rows as model;
-ghost use Rattle.gw_rows.specs.Rows.{texts};
+ghost use Rattle.gw_rows.specs.Rows.{AddsFields};
 
 use crate::amounts::amount_field;
 use crate::ends::word_of;
@@ -49,8 +49,8 @@ fn rows_field(alloc: Global, rows: u64) -> Result<Vec<u8>, Memory>
 
 /// The fields of what a run is one of.
 fn put_origin(alloc: Global, fields: &mut Vec<Vec<u8>>, origin: &Origin) -> Result<(), Memory>
-    ensures { OnOk result (texts fields.new.items
-        ≡ texts fields.old.items ++ model.source_fields (model.source_of origin.now)) }
+    ensures { AddsFields result fields.old fields.new
+        (model.source_fields (model.source_of origin.now)) }
 {
     fields.push(copy_of(alloc, &origin.model)?)?;
     fields.push(rows_field(alloc, origin.rows)?)?;
@@ -62,8 +62,7 @@ fn put_origin(alloc: Global, fields: &mut Vec<Vec<u8>>, origin: &Origin) -> Resu
 
 /// The fields of which run it is, how it ended, and what it may have drawn.
 fn put_end(alloc: Global, fields: &mut Vec<Vec<u8>>, number: u32, run: &Run) -> Result<(), Memory>
-    ensures { OnOk result (texts fields.new.items
-        ≡ texts fields.old.items ++ model.end_fields number run.now) }
+    ensures { AddsFields result fields.old fields.new (model.end_fields number run.now) }
 {
     fields.push(number_field(alloc, number)?)?;
     fields.push(copy_of(alloc, word_of(run.end).as_bytes())?)?;
@@ -78,8 +77,7 @@ fn put_values(
     fields: &mut Vec<Vec<u8>>,
     values: &[Option<i128>],
 ) -> Result<(), Memory>
-    ensures { OnOk result (texts fields.new.items
-        ≡ texts fields.old.items ++ map amount_text values.now) }
+    ensures { AddsFields result fields.old fields.new (map amount_text values.now) }
 {
     for i in 0..values.len() {
         fields.push(amount_field(alloc, values[i])?)?;
@@ -94,8 +92,8 @@ fn put_trend(
     figure: &Figure,
     trend: Option<i128>,
 ) -> Result<(), Memory>
-    ensures { OnOk result (texts fields.new.items
-        ≡ texts fields.old.items ++ model.trend_field (label_of figure.now) trend) }
+    ensures { AddsFields result fields.old fields.new
+        (model.trend_field (label_of figure.now) trend) }
 {
     if !has_trend(figure) {
         return Ok(());
@@ -122,8 +120,8 @@ fn put_trends(
     figures: &[Figure],
     trends: &[Option<i128>],
 ) -> Result<(), Memory>
-    ensures { OnOk result (texts fields.new.items
-        ≡ texts fields.old.items ++ model.trend_fields (labels figures.now) 0 trends.now) }
+    ensures { AddsFields result fields.old fields.new
+        (model.trend_fields (labels figures.now) 0 trends.now) }
 {
     for i in 0..figures.len() {
         put_trend(alloc, fields, &figures[i], trend_at(trends, i))?;
@@ -141,8 +139,8 @@ pub fn put_row(
     number: u32,
     run: &Run,
 ) -> Result<(), Memory>
-    ensures { OnOk result (out.new.items
-        ≡ out.old.items ++ model.row (labels figures.now) (model.source_of origin.now) number run.now) }
+    ensures { OnOk result
+        (out.new.items ≡ out.old.items ++ model.row_by figures.now origin.now number run.now) }
 {
     let mut fields = Vec::new(alloc);
     put_origin(alloc, &mut fields, origin)?;

@@ -4,6 +4,8 @@ use Rattle.gw_step.specs.declared.ends.End.{End}
 use Rattle.gw_scan.specs.declared.sim.Status.{Status}
 use Rattle.gw_scan.specs.declared.slices.Slice.{Slice}
 use Rattle.gw_scan.specs.declared.sim.Status.TheVariants.{Running, Ended}
+use Rattle.gw_machine.specs.Configuration.{Configuration}
+use Rattle.gw_scan.specs.SimView.{progress_on}
 use Rattle.gw_step.specs.State.{State}
 use Rattle.gw_step.specs.Job.{Job, Progress, Step, IsReached}
 use Rattle.gw_step.specs.Weight.{weight}
@@ -38,6 +40,10 @@ pub record MakesSlice (steps : ℕ) (old new : Progress) (slice : Slice) : Type 
   pub made : new.state.steps ≡ old.state.steps + slice.made
   pub all : IsSlice steps slice
   pub ended : slice.ended ≡ is_some new.state.ended
+
+-- the same of a job on a machine
+abbrev pub MakesSliceOn : Job → ℕ → Configuration → Configuration → Slice → Type 0
+MakesSliceOn j steps old new slice = MakesSlice steps (progress_on j old) (progress_on j new) slice
 
 -- a job makes so many steps at most
 pub record Advances (steps : ℕ) (old new : Progress) : Type 0 where

@@ -1,5 +1,6 @@
 -- What trying one of two next blocks comes to.
-use Rattle.std.specs.Prelude.{◌≡◌, ℕ, List, Bool, true, false, Option, Some, None, Result, Ok, Err, if◌then◌else◌}
+use Rattle.std.specs.Prelude.{◌≡◌, ◌≢◌, ℕ, List, Bool, true, false, Option, Some, None, Result, Ok, Err, if◌then◌else◌}
+use Rattle.std.specs.Borrow.{Bor}
 use Rattle.std.specs.Option.{option_map_or}
 use Rattle.gw_blocks.specs.declared.parts.Block.{Block}
 use Rattle.gw_machine.specs.Configuration.{Configuration}
@@ -7,11 +8,12 @@ use Rattle.gw_machine.specs.Leaving.{Becomes, Stays}
 use Rattle.gw_machine.specs.View.{state_of}
 use Rattle.gw_machine.specs.declared.machine.Made.{Made}
 use Rattle.gw_machine.specs.declared.machine.Made.TheVariants.{Step, Ends}
+use Rattle.gw_members.specs.declared.tx.Tx.{Tx}
 use Rattle.gw_object.specs.declared.parts.Parts.{Parts}
 use Rattle.gw_operands.specs.Values.{operands}
 use Rattle.gw_operands.specs.declared.ends.PlusEnd.{PlusEnd}
 use Rattle.gw_scan.specs.Makes.{MakesFrom}
-use Rattle.gw_scan.specs.Visiting.{IsVisit, MayMake}
+use Rattle.gw_scan.specs.Visiting.{IsVisit, MayMake, meets_its_next}
 use Rattle.gw_scan.specs.declared.both.Before.{Before}
 use Rattle.gw_scan.specs.declared.visit.Visit.{Visit}
 use Rattle.gw_step.specs.Outcome.{Outcome, Gives, EndsBy, ◌>>=◌, end_by, evaluated}
@@ -66,14 +68,14 @@ TellsRefusal (Err end) streams v block s =
 abbrev pub meets_or : (List ℕ → Outcome State) → Visit → State → Outcome State
 meets_or otherwise v s =
     refusal v.verified.now v.tx.number v.transaction s >>= λ answer.
-    if answer.0 then otherwise answer.1 else meets_one v.verified.now v.tx.number v.transaction s
+    if answer.0 then otherwise answer.1 else meets_its_next v s
 
 -- what was answered of the refusal by the next block of a visit
 abbrev pub TellsOfNext : Result Bool PlusEnd → Visit → Configuration → Configuration → Type 0
 TellsOfNext (Ok true) v old new =
     refusal v.verified.now v.tx.number v.transaction (state_of old) ≡ Gives (true, new.streams)
 TellsOfNext (Ok false) v old new =
-    ((otherwise : List ℕ → Outcome State) → meets_or otherwise v (state_of old) ≡ meets_one v.verified.now v.tx.number v.transaction (state_of old))
+    ((otherwise : List ℕ → Outcome State) → meets_or otherwise v (state_of old) ≡ meets_its_next v (state_of old))
     × (new.streams ≡ old.streams)
 TellsOfNext (Err end) v old new =
     (refusal v.verified.now v.tx.number v.transaction (state_of old) ≡ EndsBy (end_by end)) × (new.streams ≡ old.streams)
@@ -112,6 +114,10 @@ TurnsToOne (Ok false) v pair old new =
 TurnsToOne (Err end) v pair old new =
     (tries_two v pair (state_of old) ≡ EndsBy (end_by end)) × KeepsButStreams old new
 
+-- a transaction has the attributes still that it had before it might turn, unless the block that it is in was its next one
+abbrev pub IsAsBefore : Tx → Transaction → Configuration → Type 0
+IsAsBefore tx t m = t.current ≢ t.next → attributes_at tx.number m.transactions.txs ≡ Some t
+
 -- TURNING BACK
 
 -- the transaction n has the block that it is in as its next one again
@@ -141,6 +147,16 @@ GoesOn (Ok None) v outcome before old new = (to : ℕ) × HasOneNext v (outcome 
 GoesOn (Ok (Some made)) v outcome before old new =
     MakesFrom made outcome old new × (before.turned ≡ false)
 GoesOn (Err memory) v outcome before old new = Stays old new × (before.turned ≡ false)
+
+-- the visit of a transaction by its handle
+abbrev pub visit_of : Bor Parts → Tx → Transaction → Visit
+visit_of verified tx t = record { verified = verified; tx = tx; transaction = t }
+
+-- the transaction of a handle goes on so, if it is there
+abbrev pub GoesOnByHandle : {E : Type 0} → Result (Option Made) E → Bor Parts → Tx → Before → Configuration → Configuration → Type 0
+GoesOnByHandle result verified tx before old new =
+    (t : Transaction) → attributes_at tx.number old.transactions.txs ≡ Some t
+    → GoesOn result (visit_of verified tx t) (goes_from (visit_of verified tx t)) before old new
 
 -- what was done gives the new state; or it is an end, or there was no memory for it, and then it has to be undone
 abbrev pub MakesOrUndoes : {E : Type 0} → Result Made E → (State → Outcome State) → Before → Configuration → Configuration → Type 0

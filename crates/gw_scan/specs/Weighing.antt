@@ -6,9 +6,11 @@ use Rattle.gw_rules.specs.Kinds.{block_at}
 use Rattle.gw_num.specs.Table.{at}
 use Rattle.gw_members.specs.declared.tx.Event.{Event}
 use Rattle.gw_transactions.specs.Transactions.{LiveTransaction}
+use Rattle.gw_transactions.specs.declared.Transaction.{Transaction}
 use Rattle.gw_rules.specs.Weights.{weight_at}
 use Rattle.gw_machine.specs.Configuration.{Configuration}
-use Rattle.gw_step.specs.Weight.{weight_in, owed_by}
+use Rattle.gw_step.specs.Weight.{weight_in, weight_by, owed_by}
+use Rattle.gw_step.specs.Turning.{two_next}
 
 -- the greatest value of a parameter, which has 64 bits and a sign
 abbrev pub greatest_value : ℕ
@@ -26,6 +28,14 @@ later_weight p transactions time e = if int_lt time e.time then weight_in p (at 
 abbrev pub later_weights : Parts → Configuration → ℕ
 later_weights p m = sum_by (later_weight p m.transactions.txs m.clock) m.future_events.items
 
--- what the arrivals weigh that the block of a number still owes, where so many of each block were scheduled
+-- what a transaction of these attributes weighs where it is, that is a member of this user chain or of none, and has these parameters
+abbrev pub weight_with : Parts → Option ℕ → Transaction → List (Option ℤ) → ℕ
+weight_with p chain t parameters = weight_by p chain t.next (two_next p t) parameters
+
+-- what the arrivals weigh that the block of a number still owes, where so many of it were scheduled
+abbrev pub owed_weight_after : Parts → ℕ → ℕ → ℕ
+owed_weight_after p scheduled b = owed_by (block_at p.blocks b) scheduled * weight_at p.weights b
+
+-- the same, where so many of each block were scheduled
 abbrev pub owed_weight : Parts → List ℕ → ℕ → ℕ
-owed_weight p scheduled b = owed_by (block_at p.blocks b) (at 0 scheduled b) * weight_at p.weights b
+owed_weight p scheduled b = owed_weight_after p (at 0 scheduled b) b

@@ -2,14 +2,13 @@
 #![tactic(auto, unfolding(gw_step::specs::Blocks::act, gw_step::specs::Blocks::effect))]
 
 ghost use Rattle.std.specs.Prelude.{◌≡◌, ◌≤◌, ◌<◌, Some, None, length, IfSome};
-ghost use Rattle.gw_step.specs.Changes as change;
 ghost use Rattle.gw_step.specs.Blocks as model;
 ghost use Rattle.gw_machine.specs.Coherence.{HasSlot};
 ghost use Rattle.gw_machine.specs.Leaving.{BecomesBy};
 ghost use Rattle.gw_machine.specs.View.{entity_count};
 ghost use Rattle.gw_scan.specs.Makes.{MakesFrom};
 ghost use Rattle.gw_scan.specs.Origins.{assign_of, save_of};
-ghost use Rattle.gw_scan.specs.Visiting.{Acts, IsVisit, MayFall, Meets, after_entry, entry_after};
+ghost use Rattle.gw_scan.specs.Visiting.{Acts, IsVisit, MayFall, Meets, after_assignment, plus_after, tabulate_after};
 
 use crate::decoding::{AssignConstant, SaveConstant};
 use crate::visit::Visit;
@@ -51,9 +50,7 @@ impl Visit<'_> {
     )
         requires visit { IsVisit self.now machine.old }
         requires parameter { HasSlot machine.old parameter }
-        ensures { BecomesBy (λ s. after_entry self.now next
-            (change.assigned self.now.tx.number parameter value s))
-            machine.old machine.new }
+        ensures { BecomesBy (after_assignment self.now next parameter value) machine.old machine.new }
     {
         machine.assign(self.tx, parameter, value);
         machine.enter(self.tx, self.transaction, next);
@@ -147,9 +144,7 @@ impl Visit<'_> {
         requires visit { IsVisit self.now machine.old }
         requires parameter { IfSome parameter (HasSlot machine.old) }
         requires falls { MayFall self.now }
-        ensures { MakesFrom result (entry_after streams.now
-            (λ bs n t. model.plus bs n t parameter value) self.now)
-            machine.old machine.new }
+        ensures { MakesFrom result (plus_after streams.now parameter value self.now) machine.old machine.new }
     {
         let next = self.transaction.next + 1;
         match parameter {
@@ -239,9 +234,7 @@ impl Visit<'_> {
         requires visit { IsVisit self.now machine.old }
         requires there { table < entity_count machine.old }
         requires falls { MayFall self.now }
-        ensures { MakesFrom result (entry_after streams.now
-            (λ bs n t. model.tabulate bs n t table value) self.now)
-            machine.old machine.new }
+        ensures { MakesFrom result (tabulate_after streams.now table value self.now) machine.old machine.new }
     {
         match machine.tabulate(table, value) {
             Ok(()) => machine.enter_as_found(self.tx, self.transaction, self.transaction.next + 1),

@@ -4,18 +4,14 @@
 ghost use Rattle.std.specs.Prelude.{◌≡◌, ◌≤◌, ◌<◌, ◌+◌, pos, ◌≤ℤ◌, [], true, length, map};
 ghost use Rattle.gw_num.specs.Table.{at};
 ghost use Rattle.gw_entities.specs.Facility.{is_idle as is_idle_now};
-ghost use Rattle.gw_operands.specs.Values.{with_first};
-ghost use Rattle.gw_step.specs.State as state;
 ghost use Rattle.gw_step.specs.Changes as change;
 ghost use Rattle.gw_step.specs.Blocks as model;
-ghost use Rattle.gw_step.specs.Step as steps;
-ghost use Rattle.gw_step.specs.Placing.{placed};
 ghost use Rattle.gw_machine.specs.View.{state_of, entity_count};
 ghost use Rattle.gw_machine.specs.Leaving.{BecomesBy, BecomesOnOk};
 ghost use Rattle.gw_machine.specs.Spans.{spread_of};
 ghost use Rattle.gw_scan.specs.Origins.{generate_of, origin};
 ghost use Rattle.gw_scan.specs.Makes.{MakesOnOk};
-ghost use Rattle.gw_scan.specs.Visiting.{Acts, ActsOnOk, IsEntering, IsVisit, MayMake, Meets, after_entry, after_fall, with_mark};
+ghost use Rattle.gw_scan.specs.Visiting.{Acts, ActsOnOk, IsEntering, IsVisit, MayMake, Meets, arrival_with, arrival_drawn, falls_and_hands_over, falls_and_admits, leaves_after, enters_and_leaves, meets_its_next};
 
 use crate::decoding::{Arrivals, Decoded, decoded_at};
 use crate::visit::{Visit, blocks_of};
@@ -49,10 +45,7 @@ impl Visit<'_> {
         streams: &[Stream; 16],
     ) -> Result<(), Memory>
         requires { IsVisit self.now machine.old }
-        ensures { BecomesOnOk result (λ s. after_fall (with_mark s.clock self.now)
-            (change.arrives self.now.transaction.next priority moment
-            (state.with_streams streams.now s)))
-            machine.old machine.new }
+        ensures { BecomesOnOk result (arrival_with streams.now priority moment self.now) machine.old machine.new }
     {
         let parameters = machine.reserve_arrival()?;
         machine.set_streams(streams);
@@ -92,10 +85,7 @@ impl Visit<'_> {
         stream: Stream,
     ) -> Result<(), Memory>
         requires { IsVisit self.now machine.old }
-        ensures { BecomesOnOk result (λ s. after_fall (with_mark s.clock self.now)
-            (change.arrives self.now.transaction.next priority moment
-            (state.with_streams (with_first stream s.streams) s)))
-            machine.old machine.new }
+        ensures { BecomesOnOk result (arrival_drawn stream priority moment self.now) machine.old machine.new }
     {
         let unset = machine.reserve_arrival()?;
         machine.set_first_stream(stream);
@@ -189,9 +179,7 @@ impl Visit<'_> {
         requires there { f < length machine.old.entities.facilities.values }
         requires idle { is_idle_now (change.facility f (state_of machine.old)) ≡ true }
         requires room { 0 < machine.old.current_events.room }
-        ensures { BecomesBy (λ s. model.hand_over self.now.verified.now.blocks f
-            (state.delay_list f s)
-            (after_fall self.now s)) machine.old machine.new }
+        ensures { BecomesBy (falls_and_hands_over f self.now) machine.old machine.new }
     {
         machine.enter_as_found(self.tx, self.transaction, self.transaction.next + 1);
         machine.hand_over(blocks_of(self.verified), f);
@@ -230,9 +218,7 @@ impl Visit<'_> {
         requires entering { IsEntering self.now machine.old }
         requires there { e < entity_count machine.old }
         requires room { length (at [] machine.old.waits.lists e) ≤ machine.old.current_events.room }
-        ensures { BecomesBy (λ s. model.admission self.now.verified.now.blocks e
-            (state.delay_list e s)
-            (after_fall self.now s)) machine.old machine.new }
+        ensures { BecomesBy (falls_and_admits e self.now) machine.old machine.new }
     {
         machine.enter_as_found(self.tx, self.transaction, self.transaction.next + 1);
         machine.admit(blocks_of(self.verified), e);
@@ -332,10 +318,7 @@ impl Visit<'_> {
     ) -> Result<(), Memory>
         requires visit { IsVisit self.now machine.old }
         requires by { pos 0 ≤ℤ by }
-        ensures { BecomesOnOk result (λ s. placed self.now.tx.number Placement.LeavesModel
-            (change.counted by
-            (after_entry self.now self.now.transaction.next (state.with_streams streams.now s))))
-            machine.old machine.new }
+        ensures { BecomesOnOk result (leaves_after streams.now by self.now) machine.old machine.new }
     {
         machine.reserve_wake()?;
         machine.set_streams(streams);
@@ -349,9 +332,7 @@ impl Visit<'_> {
     fn enter_and_leave(&self, machine: &mut Machine, by: i64) -> Result<(), Memory>
         requires visit { IsVisit self.now machine.old }
         requires by { pos 0 ≤ℤ by }
-        ensures { BecomesOnOk result (λ s. placed self.now.tx.number Placement.LeavesModel
-            (change.counted by (after_entry self.now self.now.transaction.next s)))
-            machine.old machine.new }
+        ensures { BecomesOnOk result (enters_and_leaves by self.now) machine.old machine.new }
     {
         machine.reserve_wake()?;
         machine.enter_as_found(self.tx, self.transaction, self.transaction.next);
@@ -395,9 +376,7 @@ impl Visit<'_> {
     pub(crate) fn meet(&self, machine: &mut Machine, decoded: &[Decoded]) -> Result<Made, Memory>
         requires may { MayMake self.now machine.old }
         requires table { map origin decoded.now ≡ self.now.verified.now.blocks }
-        ensures { MakesOnOk result
-            (steps.meets_one self.now.verified.now self.now.tx.number self.now.transaction)
-            machine.old machine.new }
+        ensures { MakesOnOk result (meets_its_next self.now) machine.old machine.new }
     {
         let block = decoded_at(decoded, self.transaction.next);
         self.act(machine, block)

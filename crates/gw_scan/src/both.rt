@@ -3,15 +3,13 @@
 
 ghost use Rattle.std.specs.Prelude.{◌≡◌, ◌≢◌, ◌≤◌, length, Some, None, false};
 ghost use Rattle.gw_rules.specs.Kinds.{block_at};
-ghost use Rattle.gw_transactions.specs.declared.Transaction.{Transaction};
-ghost use Rattle.gw_transactions.specs.Transactions.{Holds, attributes_at};
+ghost use Rattle.gw_transactions.specs.Transactions.{Holds};
 ghost use Rattle.gw_step.specs.Placing.{placed};
 ghost use Rattle.gw_step.specs.Turning as turning;
 ghost use Rattle.gw_machine.specs.View.{state_of};
 ghost use Rattle.gw_machine.specs.Leaving.{BecomesBy, BecomesOnOk};
-ghost use Rattle.gw_scan.specs.declared.visit.Visit.{Visit as Visited};
 ghost use Rattle.gw_scan.specs.Visiting.{IsReady, IsVisit, MayMake, MayTry, Meets};
-ghost use Rattle.gw_scan.specs.Trying.{GoesOn, TellsOfNext, TellsRefusal, TurnsTo, TurnsToOne, goes_from, tries_two, undone, visit_towards};
+ghost use Rattle.gw_scan.specs.Trying.{GoesOn, TellsOfNext, TellsRefusal, TurnsTo, TurnsToOne, goes_from, tries_two, undone, visit_towards, GoesOnByHandle};
 
 use crate::conditions::compares;
 use crate::visit::{Visit, blocks_of};
@@ -265,9 +263,7 @@ fn turn_at_block(
     requires active { machine.old.active ≡ Some tx }
     requires held { Holds machine.old.transactions tx }
     requires before { before.old.turned ≡ false }
-    ensures { (t : Transaction) → attributes_at tx.number machine.old.transactions.txs ≡ Some t →
-        let v : Visited = record { verified = verified.entry; tx = tx; transaction = t } in
-        GoesOn result v (goes_from v) before.new machine.old machine.new }
+    ensures { GoesOnByHandle result verified.entry tx before.new machine.old machine.new }
 {
     let transaction = machine.transaction(tx);
     let visit = Visit {

@@ -2,12 +2,11 @@
 #![tactic(auto, unfolding(gw_step::specs::Blocks::act, gw_step::specs::Blocks::effect))]
 
 ghost use Rattle.std.specs.Prelude.{◌≡◌, ◌≤◌, IfSome};
-ghost use Rattle.gw_step.specs.State as state;
 ghost use Rattle.gw_step.specs.Blocks as model;
 ghost use Rattle.gw_step.specs.Placing.{placed};
 ghost use Rattle.gw_machine.specs.Leaving.{BecomesOnOk};
 ghost use Rattle.gw_scan.specs.Makes.{MakesOnOk};
-ghost use Rattle.gw_scan.specs.Visiting.{ActsOnOk, IsVisit, MayFall, MayGo, Meets, passes_or_retries};
+ghost use Rattle.gw_scan.specs.Visiting.{ActsOnOk, IsVisit, MayFall, MayGo, Meets, retries_after, passes_after};
 
 use crate::visit::Visit;
 use gw_blocks::{Block, Comparison, Gate, Test};
@@ -64,8 +63,7 @@ impl Visit<'_> {
     /// The transaction is refused after draws that left the streams here, and waits on the retry list.
     fn wait_after_draws(&self, machine: &mut Machine, streams: &[Stream; 16]) -> Result<(), Memory>
         requires { IsVisit self.now machine.old }
-        ensures { BecomesOnOk result (λ s. placed self.now.tx.number Placement.JoinsRetryList
-            (state.with_streams streams.now s)) machine.old machine.new }
+        ensures { BecomesOnOk result (retries_after streams.now self.now) machine.old machine.new }
     {
         machine.reserve_rest()?;
         machine.reserve_retry()?;
@@ -91,9 +89,7 @@ impl Visit<'_> {
         requires visit { IsVisit self.now machine.old }
         requires falls { MayFall self.now }
         requires goes { IfSome otherwise (MayGo self.now) }
-        ensures { MakesOnOk result (λ s. passes_or_retries self.now otherwise so
-            (state.with_streams streams.now s))
-            machine.old machine.new }
+        ensures { MakesOnOk result (passes_after streams.now self.now otherwise so) machine.old machine.new }
     {
         if otherwise.is_none() && !so {
             self.wait_after_draws(machine, streams)?;

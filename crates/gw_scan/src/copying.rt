@@ -4,13 +4,10 @@
 ghost use Rattle.std.specs.Prelude.{◌≡◌, ◌≤◌, Some, false};
 ghost use Rattle.gw_rules.specs.Exits.{leads_to, goes_or_falls};
 ghost use Rattle.gw_entities.specs.Facility.{owns_any};
-ghost use Rattle.gw_step.specs.Changes as change;
-ghost use Rattle.gw_step.specs.Blocks as model;
-ghost use Rattle.gw_step.specs.Placing.{placed};
 ghost use Rattle.gw_machine.specs.View.{assembly_of};
 ghost use Rattle.gw_machine.specs.Leaving.{BecomesOnOk};
 ghost use Rattle.gw_scan.specs.Makes.{MakesOnOk};
-ghost use Rattle.gw_scan.specs.Visiting.{ActsOnOk, IsVisit, MayFall, Meets, after_entry, after_fall, assembly_met, entry};
+ghost use Rattle.gw_scan.specs.Visiting.{ActsOnOk, IsVisit, MayFall, Meets, assembly_met, falls_and_copies, first_assembles, joins_and_leaves, other_assembles};
 
 use crate::visit::Visit;
 use gw_assemblies::Assembly;
@@ -33,10 +30,7 @@ impl Visit<'_> {
     /// The transaction enters its SPLIT, and copies of it are made that go to a block.
     fn pass_and_copy(&self, machine: &mut Machine, copies: u16, target: u16) -> Result<(), Memory>
         requires { IsVisit self.now machine.old }
-        ensures { BecomesOnOk result (λ s. change.copies_made copies self.now.tx.number
-            (record self.now.transaction { current = self.now.transaction.next })
-            target (after_fall self.now s))
-            machine.old machine.new }
+        ensures { BecomesOnOk result (falls_and_copies copies target self.now) machine.old machine.new }
     {
         let parameters = machine.reserve_copies(self.tx, copies)?;
         machine.enter_as_found(self.tx, self.transaction, self.transaction.next + 1);
@@ -65,8 +59,7 @@ impl Visit<'_> {
     fn begin_assembly(&self, machine: &mut Machine, missing: u16) -> Result<Made, Memory>
         requires visit { IsVisit self.now machine.old }
         requires falls { MayFall self.now }
-        ensures { MakesOnOk result (entry (λ bs n t. model.assemble_first bs n t missing) self.now)
-            machine.old machine.new }
+        ensures { MakesOnOk result (first_assembles missing self.now) machine.old machine.new }
     {
         machine.reserve_assembly()?;
         let begins = Placement::AwaitsSet(Assembling {
@@ -82,10 +75,7 @@ impl Visit<'_> {
     fn pass_and_join(&self, machine: &mut Machine, assembly: Assembly) -> Result<(), Memory>
         requires visit { IsVisit self.now machine.old }
         requires there { assembly_met self.now machine.old ≡ Some (assembly_of assembly) }
-        ensures { BecomesOnOk result (λ s. placed self.now.tx.number Placement.LeavesModel
-            (model.joined_by_one (assembly_of assembly)
-            (after_entry self.now self.now.transaction.next s)))
-            machine.old machine.new }
+        ensures { BecomesOnOk result (joins_and_leaves assembly self.now) machine.old machine.new }
     {
         machine.reserve_rest()?;
         machine.reserve_assembled()?;
@@ -100,9 +90,7 @@ impl Visit<'_> {
         requires visit { IsVisit self.now machine.old }
         requires there { assembly_met self.now machine.old ≡ Some (assembly_of assembly) }
         requires nothing { owns_any self.now.tx.number machine.old.entities.facilities.values ≡ false }
-        ensures { MakesOnOk result (entry
-            (λ bs n t. model.assemble_other n t (assembly_of assembly)) self.now)
-            machine.old machine.new }
+        ensures { MakesOnOk result (other_assembles assembly self.now) machine.old machine.new }
     {
         self.pass_and_join(machine, assembly)?;
         Ok(Made::Step)

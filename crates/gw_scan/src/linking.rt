@@ -5,7 +5,7 @@ ghost use Rattle.std.specs.Prelude.{◌≡◌, ◌<◌, length};
 ghost use Rattle.gw_step.specs.Blocks as model;
 ghost use Rattle.gw_machine.specs.View.{state_of, entity_count};
 ghost use Rattle.gw_machine.specs.Leaving.{BecomesOnOk};
-ghost use Rattle.gw_scan.specs.Visiting.{ActsOnOk, IsVisit, Meets, after_fall};
+ghost use Rattle.gw_scan.specs.Visiting.{ActsOnOk, IsVisit, Meets, falls_and_unlinks};
 
 use crate::visit::Visit;
 use gw_blocks::{Block, Link, Unlink};
@@ -51,9 +51,7 @@ impl Visit<'_> {
     ) -> Result<(), Memory>
         requires visit { IsVisit self.now machine.old }
         requires there { unlink.chain < entity_count machine.old }
-        ensures { BecomesOnOk result (λ s. model.unlinked count unlink.chain unlink.target
-            (after_fall self.now s))
-            machine.old machine.new }
+        ensures { BecomesOnOk result (falls_and_unlinks count unlink self.now) machine.old machine.new }
     {
         machine.reserve_current(count)?;
         machine.enter_as_found(self.tx, self.transaction, self.transaction.next + 1);

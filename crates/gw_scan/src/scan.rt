@@ -1,13 +1,13 @@
 //! The scan: who is active next, and one step.
 
-ghost use Rattle.std.specs.Prelude.{◌≡◌, ◌≢◌, ◌<◌, ◌^◌, Some, None, false, map, OnOk, OnErr};
+ghost use Rattle.std.specs.Prelude.{◌≡◌, ◌<◌, ◌^◌, Some, None, false, map, OnOk, OnErr};
 ghost use Rattle.gw_transactions.specs.Transactions.{Holds, attributes_at};
 ghost use Rattle.gw_step.specs.Step as model;
 ghost use Rattle.gw_machine.specs.View.{state_of};
 ghost use Rattle.gw_machine.specs.Coherence.{IsRunning};
 ghost use Rattle.gw_scan.specs.Origins.{origin};
 ghost use Rattle.gw_scan.specs.Makes.{MakesOnOk, StepsPastBudget};
-ghost use Rattle.gw_scan.specs.Trying.{MakesOrUndoes};
+ghost use Rattle.gw_scan.specs.Trying.{MakesOrUndoes, IsAsBefore};
 ghost use Rattle.gw_scan.specs.Visiting.{IsReady};
 
 use crate::both::{Before, nothing_before, undo};
@@ -44,8 +44,7 @@ fn next_active(machine: &mut Machine, blocks: &[Block]) -> Result<Made, Memory>
 #[inline(always)]
 fn once_turned(machine: &Machine, tx: Tx, transaction: Transaction) -> Transaction
     requires held { Holds machine.now.transactions tx }
-    requires same { transaction.current ≢ transaction.next
-        → attributes_at tx.number machine.now.transactions.txs ≡ Some transaction }
+    requires same { IsAsBefore tx transaction machine.now }
     ensures { attributes_at tx.number machine.now.transactions.txs ≡ Some result }
 {
     if transaction.current == transaction.next {

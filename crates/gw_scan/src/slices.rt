@@ -3,7 +3,7 @@
 ghost use Rattle.std.specs.Prelude.{◌≡◌, ◌+◌, ◌≤◌, ◌^◌, min, IfOk, OnOk, is_some, None};
 ghost use Rattle.gw_machine.specs.Slots.{greatest_set};
 ghost use Rattle.gw_step.specs.Job.{IsReached};
-ghost use Rattle.gw_scan.specs.Answers.{Advances, IsSlice, MakesSlice, StaysPaid};
+ghost use Rattle.gw_scan.specs.Answers.{Advances, IsSlice, StaysPaid, MakesSliceOn};
 ghost use Rattle.gw_scan.specs.SimView.{progress_on};
 
 use crate::both::nothing_before;
@@ -57,8 +57,7 @@ fn run_until(spec: &Spec, machine: &mut Machine, until: u64) -> Result<(), Memor
 fn run(spec: &Spec, machine: &mut Machine, steps: u32) -> Result<Slice, Memory>
     requires reached { IsReached (progress_on spec.now machine.old) }
     requires slots { machine.old.last ≡ greatest_set spec.now.parts.blocks }
-    ensures made { IfOk result (MakesSlice steps
-        (progress_on spec.now machine.old) (progress_on spec.now machine.new)) }
+    ensures made { IfOk result (MakesSliceOn spec.now steps machine.old machine.new) }
     ensures advances { Advances steps
         (progress_on spec.now machine.old) (progress_on spec.now machine.new) }
     ensures slots { machine.new.last ≡ machine.old.last }

@@ -1,15 +1,12 @@
 //! The visit of the active transaction to its next block: values of operands, and the way on.
 
 ghost use Rattle.std.specs.Prelude.{◌≡◌, ◌≤◌, ◌<◌, length};
-ghost use Rattle.gw_operands.specs.Values as values;
-ghost use Rattle.gw_operands.specs.Values.{with_first};
 ghost use Rattle.gw_step.specs.Blocks as model;
 ghost use Rattle.gw_step.specs.Operands.{MayEvaluate};
 ghost use Rattle.gw_step.specs.Placing.{placed};
 ghost use Rattle.gw_machine.specs.Coherence.{CanBePlaced, CanRest, IsOf};
-ghost use Rattle.gw_machine.specs.Evaluating.{valued};
 ghost use Rattle.gw_machine.specs.Leaving.{BecomesBy};
-ghost use Rattle.gw_scan.specs.Visiting.{IsVisit, PassesOnOk, environment_in, with_priority};
+ghost use Rattle.gw_scan.specs.Visiting.{IsVisit, PassesOnOk, environment_in, with_priority, EvaluatesFor, PassesUndrawn, PassesUntil, PassesWithin};
 
 use gw_blocks::{Block, Operand};
 use gw_machine::{Machine, active_subject};
@@ -66,8 +63,7 @@ impl Visit<'_> {
         requires own { IsOf self.now.verified.now machine.now }
         requires operand { MayEvaluate self.now.verified.now
             (environment_in self.now machine.now) operand }
-        ensures { values.operand_value self.now.verified.now
-            (environment_in self.now machine.now) operand streams.old ≡ valued result streams.new }
+        ensures { EvaluatesFor self.now operand machine.now result streams.old streams.new }
     {
         let subject = active_subject(self.tx, self.transaction);
         machine.value(self.verified, subject, operand, streams)
@@ -102,8 +98,7 @@ impl Visit<'_> {
     ) -> Result<(), Memory>
         requires visit { IsVisit self.now machine.old }
         requires there { CanBePlaced placement machine.old }
-        ensures { PassesOnOk result (with_priority priority self.now) machine.old.streams placement
-            machine.old machine.new }
+        ensures { PassesUndrawn result (with_priority priority self.now) placement machine.old machine.new }
     {
         machine.reserve_rest()?;
         machine.enter_with_priority(self.tx, self.transaction, priority);
@@ -115,8 +110,7 @@ impl Visit<'_> {
     pub(crate) fn pass_to(&self, machine: &mut Machine, placement: Placement) -> Result<(), Memory>
         requires visit { IsVisit self.now machine.old }
         requires there { CanBePlaced placement machine.old }
-        ensures { PassesOnOk result self.now machine.old.streams placement
-            machine.old machine.new }
+        ensures { PassesUndrawn result self.now placement machine.old machine.new }
     {
         machine.reserve_rest()?;
         machine.enter_as_found(self.tx, self.transaction, self.transaction.next + 1);
@@ -133,8 +127,7 @@ impl Visit<'_> {
         moment: i64,
     ) -> Result<(), Memory>
         requires { IsVisit self.now machine.old }
-        ensures { PassesOnOk result self.now streams.now (model.until machine.old.clock moment)
-            machine.old machine.new }
+        ensures { PassesUntil result self.now streams.now moment machine.old machine.new }
     {
         machine.reserve_time()?;
         machine.set_streams(streams);
@@ -152,8 +145,7 @@ impl Visit<'_> {
         moment: i64,
     ) -> Result<(), Memory>
         requires { IsVisit self.now machine.old }
-        ensures { PassesOnOk result self.now (with_first stream machine.old.streams)
-            (model.until machine.old.clock moment) machine.old machine.new }
+        ensures { PassesWithin result self.now stream moment machine.old machine.new }
     {
         machine.reserve_time()?;
         machine.set_first_stream(stream);

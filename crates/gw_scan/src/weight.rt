@@ -6,13 +6,10 @@ ghost use Rattle.gw_num.specs.Table.{at, tabulate};
 ghost use Rattle.gw_object.specs.Limits.{most_blocks, greatest_weight};
 ghost use Rattle.gw_object.specs.Grammar.{HasSpelling, SlopeFits};
 ghost use Rattle.gw_transactions.specs.Transactions.{Holds, live_count};
-ghost use Rattle.gw_rules.specs.Kinds.{block_at};
-ghost use Rattle.gw_rules.specs.Weights as certified;
-ghost use Rattle.gw_step.specs.Turning.{two_next as two_next_of};
 ghost use Rattle.gw_step.specs.Weight as model;
 ghost use Rattle.gw_machine.specs.View.{state_of};
 ghost use Rattle.gw_machine.specs.Coherence.{IsHeld};
-ghost use Rattle.gw_scan.specs.Weighing.{greatest_value, heaviest, later_weight, later_weights, owed_weight};
+ghost use Rattle.gw_scan.specs.Weighing.{greatest_value, heaviest, later_weight, later_weights, owed_weight, weight_with, owed_weight_after};
 
 use crate::both::two_next;
 use gw_blocks::{Block, Generate};
@@ -74,8 +71,7 @@ fn place_weight(
     parameters: &Parameters,
 ) -> u128
     requires { HasSpelling parts.now }
-    ensures value { result ≡ model.weight_by parts.now chain transaction.next
-        (two_next_of parts.now transaction) parameters.now.values }
+    ensures value { result ≡ weight_with parts.now chain transaction parameters.now.values }
     ensures bound { result ≤ heaviest }
 {
     if let Some(chain) = chain {
@@ -164,8 +160,7 @@ fn owed_by(block: Option<&Block>, scheduled: u64) -> u32
 /// What the arrivals weigh that the block of this number, from 1, still owes, where so many of it were scheduled.
 fn owed_at(parts: &Parts, number: u16, scheduled: u64) -> u64
     requires { HasSpelling parts.now }
-    ensures value { result
-        ≡ model.owed_by (block_at parts.now.blocks number) scheduled * certified.weight_at parts.now.weights number }
+    ensures value { result ≡ owed_weight_after parts.now scheduled number }
     ensures bound { result ≤ 2 ^ 32 * greatest_weight }
 {
     let owed = owed_by(block_of(parts.blocks.as_slice(), number), scheduled);

@@ -6,6 +6,7 @@ use Rattle.gw_object.specs.declared.parts.Parts.{Parts}
 use Rattle.gw_rules.specs.Blocks.{FlowEdge}
 use Rattle.gw_blocks.specs.declared.parts.Block.{Block}
 use Rattle.gw_blocks.specs.declared.parts.Block.TheVariants as blocks
+use Rattle.gw_blocks.specs.declared.parts.Fraction.{Fraction}
 use Rattle.gw_rules.specs.Exits.{leads_to, goes_or_falls}
 use Rattle.gw_rules.specs.Rows.{Row, ParamKind}
 use Rattle.gw_rules.specs.Blocks.{Table, Rule, rules, move}
@@ -117,6 +118,10 @@ change_behind state (b ∷ bs) rows = followed_by (change_of state (option_flatt
 
 -- BLOCKS THAT SEND THEIR ROW AS IT IS
 
+-- the blocks, by their numbers, to which a TRANSFER by fraction leads
+abbrev pub both_targets : ℕ → Fraction → List ℕ
+both_targets b f = (leads_to b (goes_or_falls f.otherwise)) ∷ f.target ∷ []
+
 -- the blocks, by their numbers, to which most blocks that change nothing of a row send it, where their rules hold; none of others
 abbrev pub goes_on_to : ℕ → Block → List ℕ
 goes_on_to b (blocks.Advance time) = (b + 1) ∷ []
@@ -126,7 +131,7 @@ goes_on_to b (blocks.Logic logic) = (b + 1) ∷ []
 goes_on_to b (blocks.Priority priority) = (b + 1) ∷ []
 goes_on_to b blocks.Buffer = (b + 1) ∷ []
 goes_on_to b (blocks.Transfer target) = target ∷ []
-goes_on_to b (blocks.TransferByFraction f) = (leads_to b (goes_or_falls f.otherwise)) ∷ f.target ∷ []
+goes_on_to b (blocks.TransferByFraction f) = both_targets b f
 goes_on_to b block = []
 
 -- one or two blocks

@@ -5,7 +5,6 @@
 ghost use Rattle.std.specs.Prelude.{◌≡◌, ◌≢◌, ◌<◌, ◌+◌, [], ◌∷◌, All, IfOk, IfSome, Some, true, length, get_or, slice_get, ◌&&◌};
 ghost use Rattle.gw_blocks.specs.declared.parts.Block.TheVariants as blocks;
 ghost use Rattle.gw_flow.specs.Known.{amounts_of};
-ghost use Rattle.gw_rules.specs.Exits.{leads_to, goes_or_falls};
 ghost use Rattle.gw_rules.specs.Kinds.{block_at};
 ghost use Rattle.gw_rules.specs.Rows.{kind_of, return_blocks};
 ghost use Rattle.gw_rules.specs.declared.edges.Target.TheVariants as targets;
@@ -429,7 +428,7 @@ fn behind_target(target: u16) -> Option<Behind>
 
 /// Behind which blocks a TRANSFER by fraction, which has this number, sends its row.
 fn behind_fraction(number: u16, fraction: &Fraction) -> Option<Behind>
-    ensures { IfSome result (λ w. model.numbers_behind w ≡ (leads_to number (goes_or_falls fraction.now.otherwise)) ∷ fraction.now.target ∷ []) }
+    ensures { IfSome result (λ w. model.numbers_behind w ≡ model.both_targets number fraction.now) }
 {
     match fraction.otherwise {
         None => behind_and_to(number, fraction.target),

@@ -1,8 +1,10 @@
 -- The object of a run.
-use Rattle.std.specs.Prelude.{◌≡◌, ◌⊎◌, ℕ, List, [], ◌∷◌}
+use Rattle.std.specs.Prelude.{◌≡◌, ◌⊎◌, ℕ, List, [], ◌∷◌, Result}
 use Rattle.gw_object.specs.Grammar.{HasSpelling, spelling}
 use Rattle.gw_object.specs.declared.parts.Parts.{Parts}
+use Rattle.gw_answers.specs.Requests.{AnswersAs}
 use Rattle.gw_answers.specs.Status.{ended, refused}
+use Rattle.gw_answers.specs.declared.answer.Answer.{Answer}
 use Rattle.gw_study.specs.Seeds.{seeds_of_run}
 use Rattle.gw_alternatives.specs.Alternatives.{ArePoints}
 use Rattle.gw_alternatives.specs.declared.alternative.Alternative.{Alternative}
@@ -14,6 +16,10 @@ reseeded parts run count = record parts { seeds = seeds_of_run run; count = coun
 -- bytes are the spelling of parts, and the status says so; or why parts have none is told
 abbrev pub IsSpelled : Parts → List ℕ → ℕ → Type 0
 IsSpelled parts out status = ((status ≡ ended) × HasSpelling parts × (out ≡ spelling parts)) ⊎ (status ≡ refused)
+
+-- the answer is these parts with the seeds of a run and this count
+abbrev pub Reseeds : {E : Type 0} → Parts → ℕ → ℕ → Result Answer E → Type 0
+Reseeds parts run count result = AnswersAs result (IsSpelled (reseeded parts run count))
 
 -- the object of a run of the first of these points
 abbrev pub IsFirstObject : List Alternative → ℕ → List ℕ → ℕ → Type 0

@@ -1,5 +1,6 @@
 -- Rows of runs of a model's points.
-use Rattle.std.specs.Prelude.{◌≡◌, ◌⊎◌, ℕ, ◌+◌, List, [], ◌∷◌, ◌++◌, length, if◌then◌else◌}
+use Rattle.std.specs.Prelude.{◌≡◌, ◌⊎◌, ℕ, ◌+◌, List, [], ◌∷◌, ◌++◌, length, Result, OnOk, Vec, if◌then◌else◌}
+use Rattle.std.specs.Global.{Global}
 use Rattle.std.specs.Str.{bytes_eq}
 use Rattle.hex.specs.Hex.{encode_lower}
 use Rattle.sha2.specs.Sha256.{sha256}
@@ -7,6 +8,7 @@ use Rattle.gw_answers.specs.Status.{ended, refused}
 use Rattle.gw_figures.specs.Labels.{labels_of}
 use Rattle.gw_figures.specs.declared.run.Run.{Run}
 use Rattle.gw_study.specs.Runs.{AreRunsFrom}
+use Rattle.gw_study.specs.Table.{Adds}
 use Rattle.gw_alternatives.specs.Alternatives.{ArePoints}
 use Rattle.gw_alternatives.specs.declared.alternative.Alternative.{Alternative}
 use Rattle.gw_rows.specs.Names.{header}
@@ -41,6 +43,10 @@ pub record AreRowsOf (common : Common) (point : Alternative) (first end : ℕ) (
   pub lone : AreRunsFrom point.spec common.from first runs
   pub text_is : text ≡ rows_from (labels_of point.spec.parts) (source common point) first runs
 
+-- such rows are added
+abbrev pub AddsLoneRows : declared_rows.Common → Alternative → ℕ → ℕ → List ℕ → List ℕ → Type 0
+AddsLoneRows common point first end old new = Adds (AreRowsOf (view common) point first end) old new
+
 -- the line before rows of a point
 abbrev pub header_of : Alternative → List ℕ
 header_of point = header (labels_of point.spec.parts)
@@ -61,6 +67,19 @@ AddsRowsOfPoints common first end last (point ∷ points) old new =
     (middle : List ℕ) × AddsRowsOf common first end last point old middle
     × AddsRowsOfPoints common first end (header_of point) points middle new
 
+-- where all went well, rows of a point are added, or those of points; the first text is the line before the last rows
+abbrev pub PutsRowsOf : {E : Type 0} → Result (Unit {0}) E → declared_rows.Common → ℕ → ℕ → Vec ℕ Global → Alternative → Vec ℕ Global → Vec ℕ Global → Type 0
+PutsRowsOf result common first end last point old new =
+    OnOk result (AddsRowsOf (view common) first end last.items point old.items new.items)
+
+abbrev pub PutsRowsOfPoints : {E : Type 0} → Result (Unit {0}) E → declared_rows.Common → ℕ → ℕ → Vec ℕ Global → List Alternative → Vec ℕ Global → Vec ℕ Global → Type 0
+PutsRowsOfPoints result common first end last points old new =
+    OnOk result (AddsRowsOfPoints (view common) first end last.items points old.items new.items)
+
+-- the rows of all these points that a request asks for
+abbrev pub AreRequestRows : Common → RowsRequest → List Alternative → List ℕ → Type 0
+AreRequestRows common request points out = AddsRowsOfPoints common request.first request.end [] points [] out
+
 -- what rows of a request have in common
 abbrev pub common_of : List ℕ → RowsRequest → Common
 common_of text request = record { model = digest text; rows = 0; from = request.from }
@@ -69,5 +88,5 @@ common_of text request = record { model = digest text; rows = 0; from = request.
 abbrev pub AreRows : List ℕ → List (List ℕ) → RowsRequest → List ℕ → ℕ → Type 0
 AreRows text words request out status =
     ((status ≡ ended) × ((points : List Alternative) × ArePoints text words request.count points
-    × AddsRowsOfPoints (common_of text request) request.first request.end [] points [] out))
+    × AreRequestRows (common_of text request) request points out))
     ⊎ ((status ≡ refused) × ((why : List ℕ) × (out ≡ refusal_rows (digest text) why)))

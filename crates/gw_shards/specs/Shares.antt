@@ -1,5 +1,6 @@
 -- The rows of a share of a model's experiment.
-use Rattle.std.specs.Prelude.{◌≡◌, ◌⊎◌, ℕ, ◌+◌, ◌*◌, ◌==◌, nat_lt, List, [], ◌∷◌, length, map, MatchBool, if◌then◌else◌}
+use Rattle.std.specs.Prelude.{◌≡◌, ◌⊎◌, ℕ, ◌+◌, ◌*◌, ◌==◌, nat_lt, List, [], ◌∷◌, length, map, MatchBool, Result, OnOk, Vec, if◌then◌else◌}
+use Rattle.std.specs.Global.{Global}
 use Rattle.gw_answers.specs.Status.{ended, refused}
 use Rattle.gw_experiment.specs.Shares.{share_of, run_at}
 use Rattle.gw_experiment.specs.declared.experiment.Experiment.{Experiment}
@@ -7,7 +8,9 @@ use Rattle.gw_experiment.specs.declared.shares.Share.{Share}
 use Rattle.gw_alternatives.specs.Alternatives.{ArePoints}
 use Rattle.gw_alternatives.specs.declared.alternative.Alternative.{Alternative}
 use Rattle.gw_rows.specs.Refusals.{refusal_rows}
-use Rattle.gw_shards.specs.Rows.{Common, digest, header_of, AddsRowsOf}
+use Rattle.gw_shards.specs.Rows.{Common, digest, header_of, view, AddsRowsOf}
+use Rattle.gw_shards.specs.declared.rows.Common as declared_rows
+use Rattle.gw_shards.specs.declared.share.Part.{Part}
 
 -- how many jobs there are: a run of a point each
 abbrev pub jobs_of : List Alternative → Experiment → ℕ
@@ -36,6 +39,15 @@ AddsParts common share runs number last (point ∷ points) old new =
     × AddsParts common share runs (number + 1)
     (last_header (run_at share.first number runs) (run_at share.end number runs) last point) points middle new
 
+-- where all went well, the rows of a part are added, or those of a share; the first text is the line before the last rows
+abbrev pub PutsPart : {E : Type 0} → Result (Unit {0}) E → declared_rows.Common → ℕ → ℕ → Vec ℕ Global → Alternative → Vec ℕ Global → Vec ℕ Global → Type 0
+PutsPart result common first end last point old new =
+    OnOk result (AddsPart (view common) first end last.items point old.items new.items)
+
+abbrev pub PutsParts : {E : Type 0} → Result (Unit {0}) E → declared_rows.Common → Share → ℕ → Vec ℕ Global → List Alternative → Vec ℕ Global → Vec ℕ Global → Type 0
+PutsParts result common share runs last points old new =
+    OnOk result (AddsParts (view common) share runs 0 last.items points old.items new.items)
+
 -- where a share has no job, the line before rows of the first point comes alone
 abbrev pub lone_header : Share → List Alternative → List ℕ
 lone_header share [] = []
@@ -46,6 +58,16 @@ abbrev pub AreShareRows : Common → Share → ℕ → List Alternative → List
 AreShareRows common share runs points text =
     AddsParts common share runs 0 (lone_header share points) points (lone_header share points) text
 
+-- the rows of a share of an experiment with these points, by the digest of its model, and the share's number, of so many
+abbrev pub AreExperimentRows : List ℕ → Experiment → ℕ → ℕ → List Alternative → List ℕ → Type 0
+AreExperimentRows model experiment number shares points text =
+    AreShareRows (common_by model points experiment) (share_of (jobs_of points experiment) number shares)
+    experiment.runs points text
+
+-- the same by what the code has of a share
+abbrev pub ArePartRows : List ℕ → Experiment → Part → List Alternative → List ℕ → Type 0
+ArePartRows model experiment part points text = AreExperimentRows model experiment part.number part.shares points text
+
 -- the words as `NURSES=2,3` of an experiment
 abbrev pub words_of : Experiment → List (List ℕ)
 words_of experiment = map (λ w. w.items) experiment.parameters.items
@@ -54,7 +76,7 @@ words_of experiment = map (λ w. w.items) experiment.parameters.items
 pub record IsShareOf (text : List ℕ) (experiment : Experiment) (number shares : ℕ) (out : List ℕ) : Type 0 where
   pub points : List Alternative
   pub asked : ArePoints text (words_of experiment) experiment.count points
-  pub rows : AreShareRows (common_by (digest text) points experiment) (share_of (jobs_of points experiment) number shares) experiment.runs points out
+  pub rows : AreExperimentRows (digest text) experiment number shares points out
 
 -- a refusal as a row
 abbrev pub IsRefusedRow : List ℕ → List ℕ → ℕ → Type 0

@@ -3,6 +3,7 @@
 ghost use Rattle.std.specs.Prelude.{◌≡◌, ◌<◌, ◌∷◌, length, map, IfOk};
 ghost use Rattle.gw_object.specs.Grammar.{HasSpelling, spelling};
 ghost use Rattle.gw_object.specs.Reading.{first_fault};
+ghost use Rattle.gw_answers.specs.Requests.{AnswersAs};
 ghost use Rattle.gw_study.specs.Seeds.{seeds_of_run};
 ghost use Rattle.gw_shards.specs.Objects as model;
 
@@ -38,7 +39,7 @@ fn seeds_in(alloc: Global, run: u32) -> Result<Vec<u32>, Memory>
 
 /// The bytes of an object of these parts, or why there is none.
 fn spelled(alloc: Global, parts: Parts) -> Result<Answer, Memory>
-    ensures { IfOk result (λ a. model.IsSpelled parts a.text.items a.status) }
+    ensures { AnswersAs result (model.IsSpelled parts) }
 {
     match build(parts) {
         Ok(object) => {
@@ -59,7 +60,7 @@ fn spelled(alloc: Global, parts: Parts) -> Result<Answer, Memory>
 /// The bytes of an object with the seeds of a run and a count.
 fn reseeded(alloc: Global, object: Object, run: u32, count: u64) -> Result<Answer, Memory>
     requires { run < 512 }
-    ensures { IfOk result (λ a. model.IsSpelled (model.reseeded object run count) a.text.items a.status) }
+    ensures { model.Reseeds object run count result }
 {
     match seeds_in(alloc, run) {
         Ok(seeds) => spelled(alloc, with_seeds(object.into_parts(), seeds, count)),
@@ -74,7 +75,7 @@ fn reseeded(alloc: Global, object: Object, run: u32, count: u64) -> Result<Answe
 fn reseeded_bytes(alloc: Global, bytes: &[u8], run: u32, count: u64) -> Result<Answer, Memory>
     requires { run < 512 }
     ensures { (p : Parts) → HasSpelling p → bytes.now ≡ spelling p
-        → IfOk result (λ a. model.IsSpelled (model.reseeded p run count) a.text.items a.status) }
+        → model.Reseeds p run count result }
 {
     match read(alloc, bytes) {
         Ok(object) => reseeded(alloc, object, run, count),
@@ -86,8 +87,7 @@ fn reseeded_bytes(alloc: Global, bytes: &[u8], run: u32, count: u64) -> Result<A
 /// The object of a run of a point.
 fn object_of_point(alloc: Global, point: &Alternative, run: u32) -> Result<Answer, Memory>
     requires { run < 512 }
-    ensures { IfOk result (λ a.
-        model.IsSpelled (model.reseeded point.now.spec.parts run point.now.spec.count) a.text.items a.status) }
+    ensures { model.Reseeds point.now.spec.parts run point.now.spec.count result }
 {
     let bytes = write(alloc, point.spec.verified().object())?;
     reseeded_bytes(alloc, &bytes, run, point.spec.count())
@@ -96,7 +96,7 @@ fn object_of_point(alloc: Global, point: &Alternative, run: u32) -> Result<Answe
 /// The object of a run of the first of these points.
 fn object_of(alloc: Global, points: &[Alternative], run: u32) -> Result<Answer, Memory>
     requires { run < 512 }
-    ensures { IfOk result (λ a. model.IsFirstObject points.now run a.text.items a.status) }
+    ensures { AnswersAs result (model.IsFirstObject points.now run) }
 {
     match points {
         [point, ..] => object_of_point(alloc, point, run),
@@ -116,8 +116,8 @@ pub fn object_of_run(
     count: u64,
 ) -> Result<Answer, Memory>
     requires { run < 512 }
-    ensures { IfOk result (λ a.
-        model.IsObjectAnswer text.now (map (λ w. w.now) words.now) run count a.text.items a.status) }
+    ensures { AnswersAs result
+        (model.IsObjectAnswer text.now (map (λ w. w.now) words.now) run count) }
 {
     match points_by_words(alloc, text, words, count) {
         Ok(points) => object_of(alloc, &points, run),

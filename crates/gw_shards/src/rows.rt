@@ -1,12 +1,12 @@
 //! The rows of runs of a model's points.
 
 ghost use Rattle.std.specs.Prelude.{◌≡◌, ◌≤◌, ◌<◌, ◌+◌, ◌++◌, ◌∷◌, [], length, map, IfOk, OnOk};
+ghost use Rattle.gw_answers.specs.Requests.{AnswersAs};
 ghost use Rattle.gw_answers.specs.Status.{ended, refused as refused_status};
-ghost use Rattle.gw_figures.specs.Labels.{labels, labels_of};
-ghost use Rattle.gw_study.specs.Table.{Adds};
 ghost use Rattle.gw_rows.specs.Refusals.{refusal_rows};
-ghost use Rattle.gw_rows.specs.Rows.{source_of, rows_from};
+ghost use Rattle.gw_rows.specs.Rows.{rows_by, source_of};
 ghost use Rattle.gw_shards.specs.Rows as model;
+ghost use Rattle.gw_shards.specs.Rows.{AreRequestRows, view};
 
 use crate::request::RowsRequest;
 use gw_alternatives::{Alternative, NoAlternative, points_by_words};
@@ -60,8 +60,8 @@ fn put_rows(
     runs: &[Run],
 ) -> Result<(), Memory>
     requires { first + length runs.now ≤ 512 }
-    ensures { OnOk result (out.new.items
-        ≡ out.old.items ++ rows_from (labels figures.now) (source_of origin.now) first runs.now) }
+    ensures { OnOk result
+        (out.new.items ≡ out.old.items ++ rows_by figures.now origin.now first runs.now) }
 {
     for i in 0..runs.len() {
         let number = first + i as u32;
@@ -81,8 +81,8 @@ fn put_point<T: Threads + Sync + Eprint>(
     end: u32,
 ) -> Result<(), Memory>
     requires { (first ≤ end) × (end ≤ 512) }
-    ensures { OnOk result (Adds (model.AreRowsOf (model.view common.now) point.now first end)
-        out.old.items out.new.items) }
+    ensures { OnOk result
+        (model.AddsLoneRows common.now point.now first end out.old.items out.new.items) }
 {
     let results = results_between(
         rt,
@@ -140,8 +140,8 @@ pub(crate) fn put_rows_of<T: Threads + Sync + Eprint>(
     end: u32,
 ) -> Result<(), Memory>
     requires { (first ≤ end) × (end ≤ 512) }
-    ensures added { OnOk result (model.AddsRowsOf (model.view common.now) first end last.old.items point.now
-        out.old.items out.new.items) }
+    ensures added { model.PutsRowsOf result common.now first end last.old point.now
+        out.old out.new }
     ensures last { OnOk result (last.new.items ≡ model.header_of point.now) }
 {
     put_header_if_other(alloc, out, last, point)?;
@@ -161,8 +161,8 @@ fn put_points<T: Threads + Sync + Eprint>(
     end: u32,
 ) -> Result<(), Memory>
     requires { (first ≤ end) × (end ≤ 512) }
-    ensures { OnOk result (model.AddsRowsOfPoints (model.view common.now) first end last.old.items points.now
-        out.old.items out.new.items) }
+    ensures { model.PutsRowsOfPoints result common.now first end last.old points.now
+        out.old out.new }
 {
     for i in 0..points.len() {
         put_rows_of(rt, alloc, out, last, common, &points[i], first, end)?;
@@ -192,8 +192,9 @@ fn told<T: Threads + Sync + Eprint>(
     request: &RowsRequest,
 ) -> Result<Answer, Memory>
     requires { (request.now.first ≤ request.now.end) × (request.now.end ≤ 512) }
-    ensures { IfOk result (λ a. (a.status ≡ ended)
-        × model.AddsRowsOfPoints (model.view common.now) request.now.first request.now.end [] points.now [] a.text.items) }
+    ensures status { IfOk result (λ a. a.status ≡ ended) }
+    ensures rows { IfOk result (λ a.
+        AreRequestRows (view common.now) request.now points.now a.text.items) }
 {
     let mut text = Vec::new(alloc);
     let mut last = Vec::new(alloc);
@@ -224,8 +225,8 @@ pub fn rows_between<T: Threads + Sync + Eprint>(
     request: &RowsRequest,
 ) -> Result<Answer, Memory>
     requires { (request.now.first ≤ request.now.end) × (request.now.end ≤ 512) }
-    ensures { IfOk result (λ a.
-        model.AreRows text.now (map (λ w. w.now) words.now) request.now a.text.items a.status) }
+    ensures { AnswersAs result
+        (model.AreRows text.now (map (λ w. w.now) words.now) request.now) }
 {
     let digest = digest_of(alloc, text)?;
     let common = Common {

@@ -1,8 +1,8 @@
 //! The rows of a share of a model's experiment.
 
 ghost use Rattle.std.specs.Prelude.{◌≡◌, ◌≤◌, ◌<◌, ◌++◌, [], length, map, IfOk, OnOk};
+ghost use Rattle.gw_answers.specs.Requests.{AnswersAs};
 ghost use Rattle.gw_answers.specs.Status.{ended};
-ghost use Rattle.gw_experiment.specs.Shares.{share_of as share_at};
 ghost use Rattle.gw_shards.specs.Rows.{view, digest as digest_text};
 ghost use Rattle.gw_shards.specs.Shares as model;
 
@@ -41,8 +41,7 @@ fn put_part<T: Threads + Sync + Eprint>(
     end: u32,
 ) -> Result<(), Memory>
     requires { (first ≤ 512) × (end ≤ 512) }
-    ensures added { OnOk result (model.AddsPart (view common.now) first end last.old.items point.now
-        out.old.items out.new.items) }
+    ensures added { model.PutsPart result common.now first end last.old point.now out.old out.new }
     ensures last { OnOk result (last.new.items ≡ model.last_header first end last.old.items point.now) }
 {
     if first >= end {
@@ -64,8 +63,7 @@ fn put_parts<T: Threads + Sync + Eprint>(
     runs: u32,
 ) -> Result<(), Memory>
     requires { (runs ≤ 512) × (length points.now ≤ 64) }
-    ensures { OnOk result (model.AddsParts (view common.now) share runs 0 last.old.items points.now
-        out.old.items out.new.items) }
+    ensures { model.PutsParts result common.now share runs last.old points.now out.old out.new }
 {
     for i in 0..points.len() {
         let (first, end) = runs_of_point(share, i as u32, runs);
@@ -133,10 +131,9 @@ fn share_of_points<T: Threads + Sync + Eprint>(
 ) -> Result<Answer, Memory>
     requires part { part.number < part.shares }
     requires few { (experiment.now.runs ≤ 512) × (length points.now ≤ 64) }
-    ensures { IfOk result (λ a. (a.status ≡ ended)
-        × model.AreShareRows (model.common_by digest.now points.now experiment.now)
-        (share_at (model.jobs_of points.now experiment.now) part.number part.shares)
-        experiment.now.runs points.now a.text.items) }
+    ensures status { IfOk result (λ a. a.status ≡ ended) }
+    ensures rows { IfOk result (λ a.
+        model.ArePartRows digest.now experiment.now part points.now a.text.items) }
 {
     let jobs = points.len() as u64 * u64::from(experiment.runs);
     let common = Common {
@@ -174,8 +171,8 @@ fn share_of<T: Threads + Sync + Eprint>(
     requires part { part.number < part.shares }
     requires few { experiment.now.runs ≤ 512 }
     requires digest { digest.now ≡ digest_text text.now }
-    ensures { IfOk result (λ a.
-        model.IsShareOr text.now experiment.now part.number part.shares a.text.items a.status) }
+    ensures { AnswersAs result
+        (model.IsShareOr text.now experiment.now part.number part.shares) }
 {
     let words = words_of(alloc, experiment)?;
     match points_by_words(alloc, text, &words, experiment.count) {
@@ -197,8 +194,7 @@ pub fn rows_of_share<T: Threads + Sync + Eprint>(
     workers: u32,
 ) -> Result<Answer, Memory>
     requires { number < shares }
-    ensures { IfOk result (λ a.
-        model.IsShareAnswer text.now number shares a.text.items a.status) }
+    ensures { AnswersAs result (model.IsShareAnswer text.now number shares) }
 {
     let digest = digest_of(alloc, text)?;
     let part = Part {

@@ -67,6 +67,10 @@ pub record IsHalfWidth (t n dispersion h : ℕ) : Type 0 where
   pub covers : t * t * dispersion ≤ h * h * scale n
   pub least : (k : ℕ) → k < h → k * k * scale n < t * t * dispersion
 
+-- the same of these values, which lie on one side of c
+abbrev pub IsHalfWidthOf : ℤ → List ℤ → ℕ → Type 0
+IsHalfWidthOf c xs h = IsHalfWidth (quantile (length xs - 1)) (length xs) (dispersion c xs) h
+
 -- no value lies too far from c
 abbrev pub are_near : ℤ → List ℤ → Bool
 are_near c xs = list_all (λ x. nat_le (distance c x) most_distance) xs
@@ -76,7 +80,7 @@ are_near c xs = list_all (λ x. nat_le (distance c x) most_distance) xs
 abbrev pub ConfidesIn : ℤ → List ℤ → Option ℕ → Type 0
 ConfidesIn c xs answer =
     MatchBool (nat_lt 1 (length xs) && are_near c xs)
-    (IsSomeAnd answer (IsHalfWidth (quantile (length xs - 1)) (length xs) (dispersion c xs)))
+    (IsSomeAnd answer (IsHalfWidthOf c xs))
     (answer ≡ None)
 
 -- a summary says this of values

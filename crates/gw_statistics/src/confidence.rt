@@ -1,9 +1,9 @@
 //! How far a mean may lie from the true one.
 
-ghost use Rattle.std.specs.Prelude.{◌≡◌, ◌≤◌, ◌<◌, ◌+◌, ◌-◌, ◌*◌, ◌/◌, ◌%◌, ◌^◌, length, min};
+ghost use Rattle.std.specs.Prelude.{◌≡◌, ◌≤◌, ◌<◌, ◌+◌, ◌-◌, ◌*◌, ◌/◌, ◌%◌, ◌^◌, length};
 ghost use Rattle.std.specs.List.{All};
-ghost use Rattle.gw_statistics.specs.Quantiles as quantiles;
-ghost use Rattle.gw_statistics.specs.Summaries.{distance, most_distance, dispersion, scale, IsHalfWidth, IsRoot};
+ghost use Rattle.gw_statistics.specs.Rounding.{quotient_up};
+ghost use Rattle.gw_statistics.specs.Summaries.{distance, most_distance, dispersion, scale, IsHalfWidthOf, IsRoot};
 
 use crate::quantiles::quantile;
 use crate::sums::{sum_of_distances, sum_of_squares};
@@ -62,8 +62,7 @@ fn scaled(square: u128, dispersion: u128, scale: u128) -> u128
     requires dispersion { dispersion ≤ 2 ^ 118 }
     requires scale { (1000000 ≤ scale) × (scale ≤ 2 ^ 47) }
     ensures value { result ≡ square * (dispersion / scale)
-        + (square * (dispersion % scale) / scale
-        + min 1 (square * (dispersion % scale) % scale)) }
+        + quotient_up (square * (dispersion % scale)) scale }
     ensures range { result ≤ 2 ^ 126 }
 {
     square * (dispersion / scale) + (square * (dispersion % scale)).div_ceil(scale)
@@ -74,7 +73,7 @@ fn scaled(square: u128, dispersion: u128, scale: u128) -> u128
 pub(crate) fn half_width(from: &i128, values: &[i128]) -> u128
     requires runs { (2 ≤ length values.now) × (length values.now ≤ 512) }
     requires near { All (λ x. distance from.now x ≤ most_distance) values.now }
-    ensures { IsHalfWidth (quantiles.quantile (length values.now - 1)) (length values.now) (dispersion from.now values.now) result }
+    ensures { IsHalfWidthOf from.now values.now result }
 {
     let runs = values.len() as u32;
     let square = squared(quantile(runs - 1));

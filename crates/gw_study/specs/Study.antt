@@ -33,6 +33,11 @@ pub record IsResultsText (figures : List Label) (runs : List Run) (request : Stu
   pub told : IsTable figures runs request count table
   pub whole : text ≡ table ++ streams_text runs
 
+-- the same of the figures and runs of results
+abbrev pub IsTextOfResults : Results → StudyRequest → ℕ → List ℕ → Type 0
+IsTextOfResults results request count text =
+    IsResultsText (labels results.figures.items) results.runs.items request count text
+
 -- the runs of a job's object from one number to another, but not that one, with the figures of its model
 pub record AreResultsBetween (j : Job) (from first end : ℕ) (results : Results) : Type 0 where
   pub figures : labels results.figures.items ≡ labels_of j.parts

@@ -1,8 +1,9 @@
 -- The table of a study.
-use Rattle.std.specs.Prelude.{◌≡◌, ◌⊎◌, ℕ, ◌+◌, ◌-◌, ◌*◌, ◌/◌, ◌%◌, min, ◌==◌, nat_lt, nat_le, int_lt, pos, List, [], ◌∷◌, ◌++◌, length, map, codes, Bool, false, ◌||◌, ◌&&◌, ℤ, unsigned_abs, Option, None, Some, Contains, MatchBool, if◌then◌else◌}
+use Rattle.std.specs.Prelude.{◌≡◌, ◌⊎◌, ℕ, ◌+◌, ◌-◌, ◌*◌, ◌/◌, ◌%◌, min, ◌==◌, nat_lt, nat_le, int_lt, pos, List, [], ◌∷◌, ◌++◌, length, map, codes, Bool, false, ◌||◌, ◌&&◌, ℤ, unsigned_abs, Option, None, Some, Contains, MatchBool, MatchOption, Vec, if◌then◌else◌}
 use Rattle.std.specs.Borrow.{Bor}
 use Rattle.std.specs.Fmt.{decimal}
-use Rattle.std.specs.List.{slice_get, count_by}
+use Rattle.std.specs.Global.{Global}
+use Rattle.std.specs.List.{count_by}
 use Rattle.gw_step.specs.declared.ends.End.{End}
 use Rattle.gw_step.specs.declared.ends.End.TheVariants.{Done, Number, ZeroDivisor, NegativeTime, LoopLimit, NoMoreEvents, Budget, Live}
 use Rattle.gw_scan.specs.declared.sim.Status.TheVariants.{Ended}
@@ -10,10 +11,13 @@ use Rattle.gw_report.specs.Report.{status_word}
 use Rattle.gw_statistics.specs.Quantiles.{first_enough}
 use Rattle.gw_statistics.specs.Summaries.{IsSummary}
 use Rattle.gw_statistics.specs.declared.summary.Summary.{Summary}
-use Rattle.gw_figures.specs.Labels.{Label}
+use Rattle.gw_figures.specs.Labels.{Label, label_of, labels}
+use Rattle.gw_figures.specs.declared.figure.Figure.{Figure}
 use Rattle.gw_figures.specs.declared.run.Run.{Run}
 use Rattle.gw_study.specs.declared.request.StudyRequest.{StudyRequest}
+use Rattle.gw_study.specs.declared.telling.Results.{Results}
 use Rattle.gw_study.specs.Text.{row_line, head_line, thousandths_of, thousandths_text}
+pub use Rattle.gw_figures.specs.Trends.{joined, value_at}
 
 -- ENDS
 
@@ -90,17 +94,17 @@ trends_of_done (run ∷ rest) =
 abbrev pub rows : List (Bor (List (Option ℤ))) → List (List (Option ℤ))
 rows references = map (λ row. row.now) references
 
--- what stands at a place, if anything does
-abbrev pub joined : Option (Option ℤ) → Option ℤ
-joined None = None
-joined (Some value) = value
-
-abbrev pub value_at : ℕ → List (Option ℤ) → Option ℤ
-value_at place values = joined (slice_get values place)
-
 -- the values at a place of several rows
 abbrev pub column : ℕ → List (List (Option ℤ)) → List (Option ℤ)
 column place rows = map (value_at place) rows
+
+-- those of the rows behind references
+abbrev pub column_behind : ℕ → List (Bor (List (Option ℤ))) → List (Option ℤ)
+column_behind place references = map (λ row. value_at place row.now) references
+
+-- the numbers of a column, where none of its values is missing
+abbrev pub AreNumbersOf : List (Option ℤ) → Option (Vec ℤ Global) → Type 0
+AreNumbersOf values numbers = MatchOption numbers (Contains values None) (λ xs. values ≡ map Some xs.items)
 
 -- what is said of a column: the summary of its numbers, or nothing where one is none
 abbrev pub IsSaidOf : List (Option ℤ) → Option Summary → Type 0
@@ -163,11 +167,15 @@ grows last change =
     rises change && nat_le 10000000 (unsigned_abs last.mean)
     && nat_le (unsigned_abs last.mean / 3) (unsigned_abs change.mean)
 
+-- the line of what is there at the end, where it grows
+abbrev pub growth_of : List ℕ → Summary → Summary → List ℕ
+growth_of name last change = if grows last change then growth_text name last.mean else []
+
 -- what is told of what is there at the end, and of its change since halfway
 abbrev pub growth_line : List ℕ → Option Summary → Option Summary → List ℕ
 growth_line name None change = []
 growth_line name (Some last) None = []
-growth_line name (Some last) (Some change) = if grows last change then growth_text name last.mean else []
+growth_line name (Some last) (Some change) = growth_of name last change
 
 -- the line of a content that grows to the end of the run
 abbrev pub IsGrowthOf : List (List (Option ℤ)) → List (List (Option ℤ)) → ℕ → Label → List ℕ → Type 0
@@ -187,6 +195,36 @@ ArePieces P place (figure ∷ rest) text =
 -- such a text is added
 abbrev pub Adds : (List ℕ → Type 0) → List ℕ → List ℕ → Type 0
 Adds P old new = (text : List ℕ) × P text × (new ≡ old ++ text)
+
+-- LINES OF FIGURES
+
+-- the row of a figure
+abbrev pub AddsFigureRow : List (Bor (List (Option ℤ))) → Bool → ℕ → Figure → List ℕ → List ℕ → Type 0
+AddsFigureRow values all place figure old new = Adds (IsRowOf (rows values) all place (label_of figure)) old new
+
+-- the rows of figures
+abbrev pub AddsFigureRows : List (Bor (List (Option ℤ))) → Bool → List Figure → List ℕ → List ℕ → Type 0
+AddsFigureRows values all figures old new = Adds (ArePieces (IsRowOf (rows values) all) 0 (labels figures)) old new
+
+-- the line of the change of an average
+abbrev pub AddsTrend : List (Bor (List (Option ℤ))) → ℕ → ℕ → Figure → List ℕ → List ℕ → Type 0
+AddsTrend trends suggested place figure old new =
+    Adds (IsTrendOf (rows trends) suggested place (label_of figure)) old new
+
+-- those of figures
+abbrev pub AddsTrends : List (Bor (List (Option ℤ))) → ℕ → List Figure → List ℕ → List ℕ → Type 0
+AddsTrends trends suggested figures old new =
+    Adds (ArePieces (IsTrendOf (rows trends) suggested) 0 (labels figures)) old new
+
+-- the line of a content that grows
+abbrev pub AddsGrowth : List (Bor (List (Option ℤ))) → List (Bor (List (Option ℤ))) → ℕ → Figure → List ℕ → List ℕ → Type 0
+AddsGrowth values trends place figure old new =
+    Adds (IsGrowthOf (rows values) (rows trends) place (label_of figure)) old new
+
+-- those of figures
+abbrev pub AddsGrowths : List (Bor (List (Option ℤ))) → List (Bor (List (Option ℤ))) → List Figure → List ℕ → List ℕ → Type 0
+AddsGrowths values trends figures old new =
+    Adds (ArePieces (IsGrowthOf (rows values) (rows trends)) 0 (labels figures)) old new
 
 -- THE TABLE
 
@@ -209,3 +247,8 @@ IsTable figures runs request count text =
     × ArePieces (IsGrowthOf (values_of_done runs) (trends_of_done runs)) 0 figures growths
     × (text ≡ first_line runs request.from ++ ends_line runs ++ head_line ++ rows
     ++ more_line (length (values_of_done runs)) ++ trends ++ growths)
+
+-- the same of the figures and runs of results
+abbrev pub IsTableOfResults : Results → StudyRequest → ℕ → List ℕ → Type 0
+IsTableOfResults results request count text =
+    IsTable (labels results.figures.items) results.runs.items request count text

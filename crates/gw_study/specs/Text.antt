@@ -51,12 +51,15 @@ half_width_text mean None = codes "-"
 half_width_text mean (Some h) =
     if nat_le h (2 ^ 64) then thousandths_text (pos (told_half_width mean h)) else codes "-"
 
+abbrev pub half_width_column : ℤ → Option ℕ → List ℕ
+half_width_column mean h = right 16 (half_width_text mean h)
+
 -- what is said of a figure: its mean, least and greatest value, and the half-width
 abbrev pub said_columns : Option Summary → List ℕ
 said_columns None = right 16 (codes "-")
 said_columns (Some s) =
     value_column s.mean ++ value_column s.least ++ value_column s.greatest
-    ++ right 16 (half_width_text s.mean s.half_width)
+    ++ half_width_column s.mean s.half_width
 
 -- the row of a figure
 abbrev pub row_line : List ℕ → Option Summary → List ℕ

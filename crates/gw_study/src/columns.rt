@@ -1,6 +1,6 @@
 //! What a figure is in the runs that came to their count.
 
-ghost use Rattle.std.specs.Prelude.{◌≡◌, ◌≤◌, length, vec_len, map, Some, None, Contains, IfOk, IfSome, MatchOption};
+ghost use Rattle.std.specs.Prelude.{◌≡◌, ◌≤◌, length, vec_len, IfOk, IfSome};
 ghost use Rattle.gw_study.specs.Table as model;
 ghost use Rattle.gw_study.specs.Table.{IsSaidOf, column as column_of, value_at as value_of};
 
@@ -86,9 +86,8 @@ fn column(
     rows: &[&[Option<i128>]],
     place: usize,
 ) -> Result<Option<Vec<i128>>, Memory>
-    ensures column { IfOk result (λ column. MatchOption column
-        (Contains (map (λ row. value_of place row.now) rows.now) None)
-        (λ xs. map (λ row. value_of place row.now) rows.now ≡ map Some xs.items)) }
+    ensures column { IfOk result (λ xs.
+        model.AreNumbersOf (model.column_behind place rows.now) xs) }
     ensures len { IfOk result (λ column. IfSome column (λ xs. vec_len xs ≡ length rows.now)) }
 {
     let mut column = Vec::with_capacity(alloc, rows.len())?;

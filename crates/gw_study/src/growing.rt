@@ -1,9 +1,8 @@
 //! Lines that grow to the end of the run: more come than can be served.
 
-ghost use Rattle.std.specs.Prelude.{◌≡◌, ◌≤◌, ◌++◌, length, Some, OnOk};
-ghost use Rattle.gw_figures.specs.Labels.{label_of, labels};
+ghost use Rattle.std.specs.Prelude.{◌≡◌, ◌≤◌, ◌++◌, length, OnOk};
 ghost use Rattle.gw_study.specs.Table as model;
-ghost use Rattle.gw_study.specs.Table.{Adds, ArePieces, IsGrowthOf};
+ghost use Rattle.gw_study.specs.Table.{AddsGrowth, AddsGrowths};
 
 use crate::columns::said_at;
 use crate::telling::{exceeds, put_amount};
@@ -55,8 +54,8 @@ fn put_growth_of(
     last: &Summary,
     change: &Summary,
 ) -> Result<(), Memory>
-    ensures { OnOk result (out.new.items
-        ≡ out.old.items ++ model.growth_line name.now (Some last.now) (Some change.now)) }
+    ensures { OnOk result
+        (out.new.items ≡ out.old.items ++ model.growth_of name.now last.now change.now) }
 {
     if !grows(last, change) {
         return Ok(());
@@ -92,9 +91,8 @@ fn put_growth(
 ) -> Result<(), Memory>
     requires rows { length rows.now ≤ 512 }
     requires trends { length trends.now ≤ 512 }
-    ensures { OnOk result (Adds
-        (IsGrowthOf (model.rows rows.now) (model.rows trends.now) place (label_of figure.now))
-        out.old.items out.new.items) }
+    ensures { OnOk result
+        (AddsGrowth rows.now trends.now place figure.now out.old.items out.new.items) }
 {
     if !figure.content {
         return Ok(());
@@ -114,9 +112,8 @@ pub(crate) fn put_growths(
 ) -> Result<(), Memory>
     requires rows { length rows.now ≤ 512 }
     requires trends { length trends.now ≤ 512 }
-    ensures { OnOk result (Adds
-        (ArePieces (IsGrowthOf (model.rows rows.now) (model.rows trends.now)) 0 (labels figures.now))
-        out.old.items out.new.items) }
+    ensures { OnOk result
+        (AddsGrowths rows.now trends.now figures.now out.old.items out.new.items) }
 {
     for i in 0..figures.len() {
         put_growth(alloc, out, &figures[i], rows, trends, i)?;

@@ -3,9 +3,8 @@
 ghost use Rattle.std.specs.Prelude.{◌≡◌, ◌≤◌, ◌^◌, vec_len, IfOk};
 ghost use Rattle.gw_model_jobs.specs.ModelJobs.{IsJobOf, Finds};
 ghost use Rattle.gw_answers.specs.Status.{ended};
-ghost use Rattle.gw_figures.specs.Labels.{labels};
 ghost use Rattle.gw_study.specs.Requests.{MayBeStudied};
-ghost use Rattle.gw_study.specs.Study.{counted as counted_of, AreResultsBetween, AreResultsOf, IsResultsText, IsCountedJob, IsCountRefusal, IsStudyRefusal, IsStudy, IsTold};
+ghost use Rattle.gw_study.specs.Study.{counted as counted_of, AreResultsBetween, AreResultsOf, IsTextOfResults, IsCountedJob, IsCountRefusal, IsStudyRefusal, IsStudy, IsTold};
 
 use crate::request::StudyRequest;
 use crate::runs::{Setup, runs_in_order, runs_of};
@@ -85,8 +84,8 @@ pub fn results_text(
 ) -> Result<Vec<u8>, Memory>
     requires runs { vec_len results.now.runs ≤ 512 }
     requires count { count ≤ 2 ^ 40 }
-    ensures { IfOk result (λ text. IsResultsText (labels results.now.figures.items)
-        results.now.runs.items request.now count text.items) }
+    ensures { IfOk result (λ text.
+        IsTextOfResults results.now request.now count text.items) }
 {
     let mut text = table(alloc, results, request, count)?;
     put_streams(&mut text, &results.runs)?;

@@ -1,9 +1,8 @@
 //! The table of a study.
 
 ghost use Rattle.std.specs.Prelude.{◌≡◌, ◌≤◌, ◌^◌, ◌++◌, ◌∷◌, length, vec_len, Some, IfOk, OnOk};
-ghost use Rattle.gw_figures.specs.Labels.{label_of, labels};
 ghost use Rattle.gw_study.specs.Table as model;
-ghost use Rattle.gw_study.specs.Table.{Adds, ArePieces, IsRowOf, IsTrendOf, IsTable};
+ghost use Rattle.gw_study.specs.Table.{AddsFigureRow, AddsFigureRows, AddsTrend, AddsTrends, IsTableOfResults};
 
 use crate::columns::{ended_so, said_at, trends_of_done, values_of_done};
 use crate::growing::put_growths;
@@ -102,8 +101,8 @@ fn put_row(
     place: usize,
 ) -> Result<(), Memory>
     requires { length rows.now ≤ 512 }
-    ensures { OnOk result (Adds (IsRowOf (model.rows rows.now) all place (label_of figure.now))
-        out.old.items out.new.items) }
+    ensures { OnOk result
+        (AddsFigureRow rows.now all place figure.now out.old.items out.new.items) }
 {
     if !(figure.main || all) {
         return Ok(());
@@ -121,9 +120,8 @@ fn put_rows(
     all: bool,
 ) -> Result<(), Memory>
     requires { length rows.now ≤ 512 }
-    ensures { OnOk result (Adds
-        (ArePieces (IsRowOf (model.rows rows.now) all) 0 (labels figures.now))
-        out.old.items out.new.items) }
+    ensures { OnOk result
+        (AddsFigureRows rows.now all figures.now out.old.items out.new.items) }
 {
     for i in 0..figures.len() {
         put_row(alloc, out, &figures[i], rows, all, i)?;
@@ -227,9 +225,8 @@ fn put_trend(
     place: usize,
 ) -> Result<(), Memory>
     requires { length rows.now ≤ 512 }
-    ensures { OnOk result (Adds
-        (IsTrendOf (model.rows rows.now) suggested place (label_of figure.now))
-        out.old.items out.new.items) }
+    ensures { OnOk result
+        (AddsTrend rows.now suggested place figure.now out.old.items out.new.items) }
 {
     if !figure.average {
         return Ok(());
@@ -247,9 +244,8 @@ fn put_trends(
     suggested: u64,
 ) -> Result<(), Memory>
     requires { length rows.now ≤ 512 }
-    ensures { OnOk result (Adds
-        (ArePieces (IsTrendOf (model.rows rows.now) suggested) 0 (labels figures.now))
-        out.old.items out.new.items) }
+    ensures { OnOk result
+        (AddsTrends rows.now suggested figures.now out.old.items out.new.items) }
 {
     for i in 0..figures.len() {
         put_trend(alloc, out, &figures[i], rows, suggested, i)?;
@@ -280,8 +276,8 @@ pub(crate) fn table(
 ) -> Result<Vec<u8>, Memory>
     requires runs { vec_len results.now.runs ≤ 512 }
     requires count { count ≤ 2 ^ 40 }
-    ensures { IfOk result (λ text. IsTable (labels results.now.figures.items)
-        results.now.runs.items request.now count text.items) }
+    ensures { IfOk result (λ text.
+        IsTableOfResults results.now request.now count text.items) }
 {
     let mut out = Vec::new(alloc);
     let values = values_of_done(alloc, &results.runs)?;

@@ -111,8 +111,7 @@ fn put_half_width(
     half_width: Option<u128>,
 ) -> Result<(), Memory>
     ensures { OnOk result
-        (out.new.items ≡ out.old.items
-        ++ model.right 16 (model.half_width_text mean.now half_width)) }
+        (out.new.items ≡ out.old.items ++ model.half_width_column mean.now half_width) }
 {
     match half_width {
         Some(half_width) if half_width <= 1 << 64 => {

@@ -1,5 +1,5 @@
 -- What a line of a run does to those that are there.
-use Rattle.std.specs.Prelude.{List, ℕ, Option, Some, None, Vec, Bool, true, false, if◌then◌else◌}
+use Rattle.std.specs.Prelude.{◌≡◌, List, ℕ, slice_get, Option, Some, None, Vec, Bool, true, false, if◌then◌else◌}
 use Rattle.std.specs.Global.{Global}
 use Rattle.std.specs.Str.{bytes_eq}
 use Rattle.gw_summary.specs.declared.point.Adding.{Adding}
@@ -15,8 +15,16 @@ adding None line = New
 adding (Some None) line = New
 adding (Some (Some known)) line = if bytes_eq known.items line then Again else Unlike
 
+-- what a line of the run of a number does to those that are there
+abbrev pub adding_at : List (Option (Vec ℕ Global)) → ℕ → List ℕ → Adding
+adding_at lines number line = adding (slice_get lines number) line
+
 -- a run has a line
 abbrev pub has : Place → Bool
 has None = false
 has (Some None) = false
 has (Some (Some line)) = true
+
+-- the same runs have lines
+abbrev pub HaveSameRuns : List (Option (Vec ℕ Global)) → List (Option (Vec ℕ Global)) → Type 0
+HaveSameRuns old new = (number : ℕ) → has (slice_get new number) ≡ has (slice_get old number)

@@ -42,6 +42,10 @@ AddsLine New line old new = OneMore line old new
 AddsLine Again line old new = Contains old line × (new ≡ old)
 AddsLine Unlike line old new = new ≡ old
 
+-- the same by the points before and after it
+abbrev pub AddsLineTo : Adding → List ℕ → PointRows → PointRows → Type 0
+AddsLineTo adding line old new = AddsLine adding line (lines_at old.lines.items) (lines_at new.lines.items)
+
 -- WHAT BECOMES OF A LINE
 
 -- a line names fields: those of a refusal, or those of runs with their figures

@@ -1,11 +1,12 @@
 -- What rows of one study tell.
-use Rattle.std.specs.Prelude.{◌≡◌, ◌⊎◌, ◌≤◌, ◌<◌, ℕ, ◌+◌, ◌-◌, ◌/◌, ◌%◌, nat_le, List, [], ◌∷◌, length, vec_len, slice_get, Option, None, Some, Bool, Vec}
+use Rattle.std.specs.Prelude.{◌≡◌, ◌⊎◌, ◌≤◌, ◌<◌, ℕ, ◌+◌, ◌-◌, ◌/◌, ◌%◌, nat_le, List, [], ◌∷◌, length, vec_len, slice_get, Option, None, Some, Bool, Vec, Result, IfOk, OnOk}
 use Rattle.std.specs.Global.{Global}
 use Rattle.std.specs.List.{All}
 use Rattle.gw_answers.specs.Status.{ended, refused}
 use Rattle.gw_figures.specs.Labels.{Label, labels}
+use Rattle.gw_figures.specs.declared.figure.Figure.{Figure}
 use Rattle.gw_figures.specs.declared.run.Run.{Run}
-use Rattle.gw_study.specs.Study.{IsResultsText}
+use Rattle.gw_study.specs.Study.{IsTextOfResults}
 use Rattle.gw_study.specs.Table.{Adds}
 use Rattle.gw_study.specs.declared.request.StudyRequest.{StudyRequest}
 use Rattle.gw_study.specs.declared.telling.Results.{Results}
@@ -14,7 +15,8 @@ use Rattle.gw_alternatives.specs.Told.{IsTableOf, IsPointBy, AddsBlock, AddsAllD
 use Rattle.gw_rows.specs.Reading.{IsHeaderOf, IsLine}
 use Rattle.gw_rows.specs.Rows.{Source, row}
 use Rattle.gw_summary.specs.Adding.{has}
-use Rattle.gw_summary.specs.Keeping.{AreRowsOf}
+use Rattle.gw_summary.specs.Keeping.{AreRowsOf, IsRead}
+use Rattle.gw_summary.specs.declared.pieces.Pieces.{Pieces}
 use Rattle.gw_summary.specs.declared.point.PointRows.{PointRows}
 use Rattle.gw_summary.specs.declared.rows.Rows.{Rows}
 use Rattle.gw_summary.specs.declared.study.Study.{Study}
@@ -72,10 +74,14 @@ LinesTell labels source number (line ∷ lines) runs =
     (run : Option Run) × (rest : List Run) × IsRunOfLine labels source number line run
     × LinesTell labels source (number + 1) lines rest × (runs ≡ with_run run rest)
 
+-- the runs that the lines of a point of this name tell
+abbrev pub LinesTellRuns : List Figure → Study → List ℕ → List Line → List Run → Type 0
+LinesTellRuns figures study point lines runs = LinesTell (labels figures) (source study point) 0 lines runs
+
 -- the figures that the header names, and the runs that the lines of a point tell
 pub record AreResultsOf (rows : Rows) (study : Study) (point : PointRows) (results : Results) : Type 0 where
   pub figures : IsHeaderOf rows.header.items results.figures.items
-  pub runs : LinesTell (labels results.figures.items) (source study point.name.items) 0 point.lines.items results.runs.items
+  pub runs : LinesTellRuns results.figures.items study point.name.items point.lines.items results.runs.items
 
 -- what a study is asked for that has these runs
 abbrev pub study_request : Study → SummaryRequest → ℕ → StudyRequest
@@ -96,7 +102,7 @@ asked_of study request results = study_request study request (vec_len results.ru
 abbrev pub IsModelTold : Rows → Study → SummaryRequest → PointRows → List ℕ → Type 0
 IsModelTold rows study request point text =
     (results : Results) × AreResultsOf rows study point results
-    × IsResultsText (labels results.figures.items) results.runs.items (asked_of study request results) study.origin.count text
+    × IsTextOfResults results (asked_of study request results) study.origin.count text
 
 -- what is told of a point: its table, and what its runs say
 pub record TellsPoint (rows : Rows) (study : Study) (request : SummaryRequest) (point : PointRows) (told : Point) (old new : List ℕ) : Type 0 where
@@ -104,6 +110,11 @@ pub record TellsPoint (rows : Rows) (study : Study) (request : SummaryRequest) (
   pub runs : AreResultsOf rows study point results
   pub point_is : IsPointBy request.all point.name.items results told
   pub table : Adds (IsTableOf point.name.items results (asked_of study request results) study.origin.count) old new
+
+-- where all went well, a point is told behind a text, and what its runs say comes back
+abbrev pub PutsPoint : {E : Type 0} → Result Point E → Rows → Study → SummaryRequest → PointRows → Vec ℕ Global → Vec ℕ Global → Type 0
+PutsPoint result rows study request point old new =
+    IfOk result (λ told. TellsPoint rows study request point told old.items new.items)
 
 -- all points are, one after the other
 unfoldable pub TellsPoints : Rows → Study → SummaryRequest → List PointRows → List Point → List ℕ → List ℕ → Type 0
@@ -116,6 +127,11 @@ TellsPoints rows study request (point ∷ points) told old new =
 abbrev pub AddsTables : Rows → Study → SummaryRequest → List PointRows → List ℕ → List ℕ → List ℕ → Type 0
 AddsTables rows study request points differences old new =
     (told : List Point) × TellsPoints rows study request points told old new × AddsAllDifferences request.all told [] differences
+
+-- where all went well, the tables of points are put behind a text, and these are their differences
+abbrev pub PutsTables : {E : Type 0} → Result (Unit {0}) E → Rows → Study → SummaryRequest → List PointRows → Vec ℕ Global → Vec ℕ Global → Vec ℕ Global → Type 0
+PutsTables result rows study request points differences old new =
+    OnOk result (AddsTables rows study request points differences.items old.items new.items)
 
 -- the tables of all points, and behind them the differences of each to the first, as a study tells them
 abbrev pub ArePointsTold : Rows → Study → SummaryRequest → List ℕ → Type 0
@@ -155,3 +171,7 @@ IsSummary rows request text status =
 abbrev pub IsSummaryOf : List ℕ → SummaryRequest → List ℕ → ℕ → Type 0
 IsSummaryOf bytes request text status =
     ((rows : Rows) × AreRowsOf bytes rows.points.items × IsSummary rows request text status) ⊎ (status ≡ refused)
+
+-- the same about all bytes that may have been read into pieces
+abbrev pub IsSummaryOfPieces : Pieces → SummaryRequest → List ℕ → ℕ → Type 0
+IsSummaryOfPieces pieces request text status = (bytes : List ℕ) → IsRead bytes pieces → IsSummaryOf bytes request text status

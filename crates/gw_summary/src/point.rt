@@ -1,9 +1,9 @@
 //! The rows of a point.
 
-ghost use Rattle.std.specs.Prelude.{◌≡◌, ◌≤◌, ◌<◌, ℕ, false, nat_le, vec_len, slice_get, Some, IfNone, IfOk, OnOk};
+ghost use Rattle.std.specs.Prelude.{◌≡◌, ◌≤◌, ◌<◌, false, nat_le, vec_len, slice_get, Some, IfNone, IfOk, OnOk};
 ghost use Rattle.std.specs.List.{slice_set};
 ghost use Rattle.gw_summary.specs.Adding as model;
-ghost use Rattle.gw_summary.specs.Keeping.{AddsLine, OneMore, lines_at};
+ghost use Rattle.gw_summary.specs.Keeping.{AddsLineTo, OneMore, lines_at};
 ghost use Rattle.gw_summary.specs.Telling.{IsWhole};
 
 use crate::fault::RowFault;
@@ -36,8 +36,7 @@ pub(crate) enum Adding {
 fn fill(lines: &mut Vec<Option<Vec<u8>>>, end: usize) -> Result<(), Memory>
     ensures long { OnOk result (end ≤ vec_len lines.new) }
     ensures same { OnOk result (lines_at lines.new.items ≡ lines_at lines.old.items) }
-    ensures has { OnOk result ((n : ℕ) → model.has (slice_get lines.new.items n)
-        ≡ model.has (slice_get lines.old.items n)) }
+    ensures has { OnOk result (model.HaveSameRuns lines.old.items lines.new.items) }
 {
     for _ in lines.len()..end {
         lines.push(None)?;
@@ -66,7 +65,7 @@ fn copy_of(alloc: Global, line: &[u8]) -> Result<Vec<u8>, Memory>
 impl PointRows {
     /// What a line of a run does to the others.
     fn adding(&self, number: usize, line: &[u8]) -> Adding
-        ensures { result ≡ model.adding (slice_get self.now.lines.items number) line.now }
+        ensures { result ≡ model.adding_at self.now.lines.items number line.now }
     {
         match self.lines.get(number) {
             Some(Some(known)) => {
@@ -96,9 +95,9 @@ impl PointRows {
     pub(crate) fn add(&mut self, alloc: Global, number: u32, line: &[u8]) -> Result<Adding, Memory>
         requires { number < 512 }
         ensures adding { IfOk result (λ adding.
-            adding ≡ model.adding (slice_get self.old.lines.items number) line.now) }
+            adding ≡ model.adding_at self.old.lines.items number line.now) }
         ensures lines { IfOk result (λ adding.
-            AddsLine adding line.now (lines_at self.old.lines.items) (lines_at self.new.lines.items)) }
+            AddsLineTo adding line.now self.old self.new) }
     {
         let number = number as usize;
         let adding = self.adding(number, line);

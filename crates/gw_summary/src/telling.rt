@@ -1,12 +1,12 @@
 //! What rows tell.
 
-ghost use Rattle.std.specs.Prelude.{◌≡◌, ◌≤◌, ◌+◌, ◌++◌, ℕ, List, [], Some, length, IfOk, IfNone, IfSome, IsTrue, OnOk, vec_len};
+ghost use Rattle.std.specs.Prelude.{◌≡◌, ◌≤◌, ◌+◌, ◌++◌, [], Some, length, IfOk, IfNone, IfSome, IsTrue, OnOk, vec_len};
 ghost use Rattle.std.specs.List.{All};
 ghost use Rattle.gw_figures.specs.Labels.{labels};
 ghost use Rattle.gw_rows.specs.Reading.{IsHeaderOf};
 ghost use Rattle.gw_rows.specs.Rows.{source_of};
-ghost use Rattle.gw_summary.specs.Keeping.{IsRead};
 ghost use Rattle.gw_summary.specs.Telling as model;
+ghost use Rattle.gw_answers.specs.Requests.{AnswersAs};
 ghost use Rattle.gw_answers.specs.Status.{refused as refused_status};
 
 use crate::fault::{RowFault, refusal_of};
@@ -181,7 +181,7 @@ fn runs_of(
     point: &[u8],
 ) -> Result<Vec<Run>, Memory>
     ensures tell { IfOk result (λ runs.
-        model.LinesTell (labels figures.now) (model.source study.now point.now) 0 lines.now runs.items) }
+        model.LinesTellRuns figures.now study.now point.now lines.now runs.items) }
     ensures few { IfOk result (λ runs. length runs.items ≤ length lines.now) }
 {
     let mut runs = Vec::new(alloc);
@@ -242,8 +242,7 @@ fn point_told(
     request: SummaryRequest,
 ) -> Result<Point, Memory>
     requires { vec_len point.now.lines ≤ 512 }
-    ensures { IfOk result (λ told.
-        model.TellsPoint rows.now study.now request point.now told out.old.items out.new.items) }
+    ensures { model.PutsPoint result rows.now study.now request point.now out.old out.new }
 {
     let results = results_of(alloc, rows, study, point)?;
     let asked = study_request(study, request, results.runs.len() as u32);
@@ -294,8 +293,8 @@ fn put_tables(
 ) -> Result<(), Memory>
     requires few { All (λ p. vec_len p.lines ≤ 512) points.now }
     requires behind { behind.old.items ≡ [] }
-    ensures { OnOk result (model.AddsTables rows.now study.now request points.now behind.new.items
-        out.old.items out.new.items) }
+    ensures { model.PutsTables result rows.now study.now request points.now behind.new
+        out.old out.new }
 {
     let mut first: Option<Point> = None;
     for i in 0..points.len() {
@@ -382,7 +381,7 @@ fn summary_of(
 ) -> Result<Answer, Memory>
     requires study { rows.now.study ≡ Some study.now }
     requires only { model.HasOnlyRows rows.now }
-    ensures { IfOk result (λ a. model.IsSummary rows.now request a.text.items a.status) }
+    ensures { AnswersAs result (model.IsSummary rows.now request) }
 {
     match gap_of(rows, study, request.seeds) {
         Some(gap) => refusal(alloc, line, gap.point, gap.fault),
@@ -413,7 +412,7 @@ fn rows_told(
     request: SummaryRequest,
 ) -> Result<Answer, Memory>
     requires { rows.now.waiting.items ≡ [] }
-    ensures { IfOk result (λ a. model.IsSummary rows.now request a.text.items a.status) }
+    ensures { AnswersAs result (model.IsSummary rows.now request) }
 {
     match (rows.refused(), rows.study()) {
         (Some(refused), _) => refused_by(alloc, refused),
@@ -429,7 +428,7 @@ fn lines_told(
     line: u64,
     request: SummaryRequest,
 ) -> Result<Answer, Memory>
-    ensures { IfOk result (λ a. model.IsSummary rows.now request a.text.items a.status) }
+    ensures { AnswersAs result (model.IsSummary rows.now request) }
 {
     match rows.first_waiting() {
         Some(first) => refusal(alloc, first, &[], RowFault::NoHeader),
@@ -441,8 +440,7 @@ fn lines_told(
 /// each, in the order of their numbers, and then the differences of each to the first. A refusal that a row tells is told. Rows are
 /// refused (84 Row) that aren't those of all runs of a study, each once, and a line that is cut off.
 pub fn summary(alloc: Global, pieces: &Pieces, request: SummaryRequest) -> Result<Answer, Memory>
-    ensures { IfOk result (λ a. (bytes : List ℕ) → IsRead bytes pieces.now
-        → model.IsSummaryOf bytes request a.text.items a.status) }
+    ensures { AnswersAs result (model.IsSummaryOfPieces pieces.now request) }
 {
     if pieces.is_cut() {
         return refusal(alloc, pieces.line(), &[], RowFault::Cut);

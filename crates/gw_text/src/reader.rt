@@ -1,8 +1,8 @@
 //! Statements, by their heads.
 
-ghost use Rattle.std.specs.Prelude.{◌≡◌, ◌<◌, ◌≤◌, [], length, map, option_map, slice_index_or, string_bytes, true, None, Some, Ok, IfOk, MatchResult};
+ghost use Rattle.std.specs.Prelude.{◌≡◌, ◌<◌, ◌≤◌, [], length, map, slice_index_or, string_bytes, true, None, Some, Ok, IfOk, MatchResult};
 ghost use Rattle.gw_text_tokens.specs.Lines.{IsShort, AreShort};
-ghost use Rattle.gw_text.specs.Knowing.{Labelled, Counts, Admits, Knows};
+ghost use Rattle.gw_text.specs.Knowing.{Labelled, Counts, AdmitsFirst, Knows, TakesLabel};
 ghost use Rattle.gw_text.specs.Reading.{StaysWithin, StaysSingle};
 
 use crate::model::Body;
@@ -68,7 +68,7 @@ impl Reader {
     /// The label of a statement. Refusals are noted.
     fn label(&mut self, lowest: &mut Lowest, head: &Head<'_>) -> Result<Option<String>, AllocError>
         ensures label { IfOk result (λ label. lowest.new.found ≡ None
-            → Labelled self.old.labels self.new.labels (option_map string_bytes label)) }
+            → TakesLabel self.old self.new label) }
         ensures blocks { self.new.blocks ≡ self.old.blocks }
         ensures started { self.new.is_started ≡ self.old.is_started }
     {
@@ -109,8 +109,7 @@ impl Reader {
     /// The first line of a statement, but of FUNCTION and PROCEDURE.
     fn first(&mut self, head: &Head<'_>) -> Result<First, Stop>
         requires { self.old.blocks ≤ 4096 }
-        ensures { IfOk result (λ first. Admits self.old self.new head.now.word
-            (option_map string_bytes first.label)) }
+        ensures { IfOk result (AdmitsFirst self.old self.new head.now.word) }
     {
         let tokens = tokens_of(self.alloc, head.rest)?;
         let mut known = Lowest::NONE;
@@ -129,8 +128,7 @@ impl Reader {
 
     /// The first line of a FUNCTION, and how many points follow.
     fn first_of_function(&mut self, head: &Head<'_>) -> Result<(First, usize), Stop>
-        ensures label { IfOk result (λ x.
-            Labelled self.old.labels self.new.labels (option_map string_bytes x.0.label)) }
+        ensures label { IfOk result (λ x. TakesLabel self.old self.new x.0.label) }
         ensures blocks { self.new.blocks ≡ self.old.blocks }
         ensures started { self.new.is_started ≡ self.old.is_started }
     {
@@ -156,8 +154,7 @@ impl Reader {
         requires short { IsShort (slice_index_or (map (λ l. l.now) lines.now) i []) }
         ensures lines { StaysWithin i (length lines.now) result }
         ensures short { IfOk result (λ read. AreShort (map (λ l. l.now) lines.now) i read.last) }
-        ensures label { IfOk result (λ read.
-            Labelled self.old.labels self.new.labels (option_map string_bytes read.first.label)) }
+        ensures label { IfOk result (λ read. TakesLabel self.old self.new read.first.label) }
         ensures blocks { self.new.blocks ≡ self.old.blocks }
         ensures started { self.new.is_started ≡ self.old.is_started }
     {
@@ -176,8 +173,7 @@ impl Reader {
         requires { i < length lines.now }
         ensures lines { StaysWithin i (length lines.now) result }
         ensures short { IfOk result (λ read. AreShort (map (λ l. l.now) lines.now) i read.last) }
-        ensures label { IfOk result (λ read.
-            Labelled self.old.labels self.new.labels (option_map string_bytes read.first.label)) }
+        ensures label { IfOk result (λ read. TakesLabel self.old self.new read.first.label) }
         ensures blocks { self.new.blocks ≡ self.old.blocks }
         ensures started { self.new.is_started ≡ self.old.is_started }
     {
@@ -207,8 +203,8 @@ impl Reader {
         ensures lines { StaysWithin i (length lines.now) result }
         ensures single { StaysSingle head.now.word i result }
         ensures short { IfOk result (λ read. AreShort (map (λ l. l.now) lines.now) i read.last) }
-        ensures admits { IfOk result (λ read. Admits self.old self.new head.now.word
-            (option_map string_bytes read.first.label)) }
+        ensures admits { IfOk result (λ read.
+            AdmitsFirst self.old self.new head.now.word read.first) }
     {
         match head.word {
             Word::Function => self.function(head, lines, i),

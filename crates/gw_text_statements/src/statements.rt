@@ -3,8 +3,9 @@
 ghost use Rattle.gw_text_expressions.specs.Reading.{KeepsNames};
 ghost use Rattle.gw_text_expressions.specs.Stops.{StopsLabel};
 ghost use Rattle.gw_text_tokens.specs.Heads.{head_word, word_behind};
+ghost use Rattle.gw_text_statements.specs.Heads.{HasWord};
 ghost use Rattle.gw_text_tokens.specs.Tokens.{name_in};
-ghost use Rattle.std.specs.Prelude.{◌≡◌, ◌⊎◌, IfErr, MatchResult, Some, None};
+ghost use Rattle.std.specs.Prelude.{◌≡◌, ◌⊎◌, IfErr};
 ghost use Rattle.gw_text_tokens.specs.declared.faults.Refusal.TheVariants as refusals;
 
 use crate::fields::{Number, fields_of};
@@ -34,8 +35,7 @@ pub struct Head<'a> {
 
 /// The head of a line; 71 Word, or 75 LeftOut where the word is one of GPSS World that is left out.
 pub fn head_of(line: &[u8]) -> Result<Head<'_>, Refusal>
-    ensures word { MatchResult result (λ head. head_word line.now ≡ Some head.word)
-        (λ _. head_word line.now ≡ None) }
+    ensures word { HasWord (head_word line.now) result }
     ensures refused { IfErr result (λ found. (found ≡ refusals.Word) ⊎ (found ≡ refusals.LeftOut)) }
 {
     match next_token(line) {
@@ -57,9 +57,7 @@ pub fn head_of(line: &[u8]) -> Result<Head<'_>, Refusal>
 
 /// The head of a line that begins with a label, which this follows; `refusal` where no word follows.
 fn labelled<'a>(label: Token<'a>, line: &'a [u8], refusal: Refusal) -> Result<Head<'a>, Refusal>
-    ensures word { MatchResult result
-        (λ head. word_behind (name_in label.entry) line.now ≡ Some head.word)
-        (λ _. word_behind (name_in label.entry) line.now ≡ None) }
+    ensures word { HasWord (word_behind (name_in label.entry) line.now) result }
     ensures refused { IfErr result (λ found. (found ≡ refusal) ⊎ (found ≡ refusals.LeftOut)) }
 {
     let Some((Token::Name(second), _)) = next_token(line) else {

@@ -15,6 +15,7 @@ use Rattle.gw_step.specs.Changes.{facility}
 use Rattle.gw_scan.specs.declared.sim.Status.TheVariants.{Ended}
 use Rattle.gw_scan.specs.Views.{delayed_in}
 use Rattle.gw_report.specs.Report.{status_word}
+use Rattle.gw_trace.specs.declared.line.Step.{Step}
 use Rattle.gw_trace.specs.declared.sight.Choice.{Choice}
 use Rattle.gw_trace.specs.declared.sight.Sight.{Sight}
 use Rattle.gw_trace.specs.declared.happening.Happening.{Happening}
@@ -52,6 +53,12 @@ block_text p block = block_word block ++ option_map_or (name_text p) (entity_of 
 -- the same for the block of a number
 abbrev pub block_at_text : Parts → ℕ → List ℕ
 block_at_text p b = option_map_or (block_text p) (block_at p.blocks b) (codes "no block")
+
+-- STEPS
+
+-- what is made of a step: of what was seen before it, and of the state after it
+abbrev pub of_step : {A : Type 0} → Step → (Sight → State → A) → A
+of_step step make = make step.before.now step.sim.now.state
 
 -- WHAT HAPPENED
 
@@ -122,10 +129,14 @@ abbrev pub tried_text : Option Choice → Parts → ℕ → List ℕ
 tried_text None p b = block_at_text p b
 tried_text (Some choice) p b = choice_text p choice (codes " or ")
 
+-- by what was seen
+abbrev pub attempt_text : Parts → Sight → List ℕ
+attempt_text p before = tried_text before.choice p before.next.block
+
 -- where a run stopped by an end that changes nothing else
 abbrev pub stopped_text : Option ℕ → Parts → Sight → List ℕ
 stopped_text None p before = codes "nobody is left to move"
-stopped_text (Some n) p before = codes "stopped at " ++ tried_text before.choice p before.next.block
+stopped_text (Some n) p before = codes "stopped at " ++ attempt_text p before
 
 abbrev pub stop_text : Parts → Sight → List ℕ
 stop_text p before = stopped_text before.active p before

@@ -3,8 +3,11 @@ use Rattle.std.specs.Prelude.{◌≡◌, ◌&&◌, ℕ, zero, suc, ℤ, int_le, 
 use Rattle.gw_object.specs.declared.parts.Parts.{Parts}
 use Rattle.gw_step.specs.State.{State}
 use Rattle.gw_step.specs.Job.{Job, Progress, Alone, after, start_of}
+use Rattle.gw_answers.specs.declared.answer.Answer.{Answer}
+use Rattle.gw_answers.specs.Status.{ended}
 use Rattle.gw_model_jobs.specs.Running.{IsOver}
 use Rattle.gw_trace.specs.declared.sight.Sight.{Sight}
+use Rattle.gw_trace.specs.declared.tracing.Window.{Window}
 use Rattle.gw_trace.specs.Sights.{sight_of}
 use Rattle.gw_trace.specs.Lines.{step_line}
 
@@ -19,6 +22,14 @@ line_seen p from to before t = if is_within from to t.clock then step_line p bef
 -- the line of the step from s to t
 abbrev pub line_within : Parts → ℤ → ℤ → State → State → List ℕ
 line_within p from to s t = line_seen p from to (sight_of p s) t
+
+-- the line of a step to where a job is, where its clock lies within a window, by what was seen before
+abbrev pub sight_line : Window → Sight → Progress → List ℕ
+sight_line window before p = line_seen p.job.parts window.from.0 window.to.0 before p.state
+
+-- and by where the job was
+abbrev pub window_line : Window → Progress → Progress → List ℕ
+window_line window old new = line_within old.job.parts window.from.0 window.to.0 old.state new.state
 
 -- the same, where there are such states
 abbrev pub line_between : Parts → ℤ → ℤ → Option State → Option State → List ℕ
@@ -45,3 +56,7 @@ pub record IsTrace (from to : ℤ) (j : Job) (text : List ℕ) : Type 0 where
   pub alone : Alone j steps state
   pub over : IsOver to state
   pub lines : text ≡ heading ++ lines_of_steps j from to steps
+
+-- it answers, with the status of an end
+abbrev pub AnswersTrace : Window → Job → Answer → Type 0
+AnswersTrace window j a = (a.status ≡ ended) × IsTrace window.from.0 window.to.0 j a.text.items

@@ -1,6 +1,7 @@
 //! The columns of a trace.
 
-ghost use Rattle.std.specs.Prelude.{◌≡◌, ◌++◌, ◌≤◌, OnOk};
+ghost use Rattle.std.specs.Prelude.{◌≤◌};
+ghost use Rattle.gw_report.specs.Report.{Puts};
 ghost use Rattle.gw_trace.specs.Columns.{column, number_or_dash};
 
 use gw_object::Memory;
@@ -13,7 +14,7 @@ const BLANKS: &str = "            ";
 /// A text, with blanks before it up to a width.
 fn put_padded(out: &mut Vec<u8>, width: usize, text: &str) -> Result<(), Memory>
     requires { width ≤ 12 }
-    ensures { OnOk result (out.new.items ≡ out.old.items ++ column width text.now) }
+    ensures { Puts result out.old out.new (column width text.now) }
 {
     let blanks = BLANKS.as_bytes();
     out.extend_from_slice(&blanks[..width.saturating_sub(text.len())])?;
@@ -27,7 +28,7 @@ pub(crate) fn put_column<I: Integer>(
     number: I,
 ) -> Result<(), Memory>
     requires { width ≤ 12 }
-    ensures { OnOk result (out.new.items ≡ out.old.items ++ column width (I.text number)) }
+    ensures { Puts result out.old out.new (column width (I.text number)) }
 {
     let mut buffer = Buffer::new();
     put_padded(out, width, buffer.format(number))
@@ -36,7 +37,7 @@ pub(crate) fn put_column<I: Integer>(
 /// A number from 1, or a dash for 0, which stands for none.
 pub(crate) fn put_number_or_dash(out: &mut Vec<u8>, width: usize, number: u64) -> Result<(), Memory>
     requires { width ≤ 12 }
-    ensures { OnOk result (out.new.items ≡ out.old.items ++ column width (number_or_dash number)) }
+    ensures { Puts result out.old out.new (column width (number_or_dash number)) }
 {
     if number == 0 {
         put_padded(out, width, "-")

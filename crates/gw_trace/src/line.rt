@@ -1,8 +1,10 @@
 //! The line of a step.
 
-ghost use Rattle.std.specs.Prelude.{◌≡◌, ◌++◌, OnOk};
+ghost use Rattle.std.specs.Prelude.{◌≡◌};
 ghost use Rattle.std.specs.Option.{option_copied};
+ghost use Rattle.gw_report.specs.Report.{Puts};
 ghost use Rattle.gw_trace.specs.Lines as model;
+ghost use Rattle.gw_trace.specs.Lines.{of_step};
 
 use crate::columns::{put_column, put_number_or_dash};
 use crate::happening::{Happening, is_delayed, let_in, what_happened, woken};
@@ -43,7 +45,7 @@ fn entity_of(block: &Block) -> Option<u16>
 
 /// A blank and the name of an entity, which is given by its number from 0.
 fn put_name(out: &mut Vec<u8>, parts: &Parts, entity: u16) -> Result<(), Memory>
-    ensures { OnOk result (out.new.items ≡ out.old.items ++ model.name_text parts.now entity) }
+    ensures { Puts result out.old out.new (model.name_text parts.now entity) }
 {
     match parts.entities.as_slice().get(entity as usize) {
         Some(entity) => {
@@ -56,7 +58,7 @@ fn put_name(out: &mut Vec<u8>, parts: &Parts, entity: u16) -> Result<(), Memory>
 
 /// The word of a block, and the name of its entity.
 fn put_block(out: &mut Vec<u8>, parts: &Parts, block: &Block) -> Result<(), Memory>
-    ensures { OnOk result (out.new.items ≡ out.old.items ++ model.block_text parts.now block.now) }
+    ensures { Puts result out.old out.new (model.block_text parts.now block.now) }
 {
     put(out, block_word(block))?;
     match entity_of(block) {
@@ -67,7 +69,7 @@ fn put_block(out: &mut Vec<u8>, parts: &Parts, block: &Block) -> Result<(), Memo
 
 /// The block of a number, from 1.
 fn put_block_at(out: &mut Vec<u8>, parts: &Parts, number: u16) -> Result<(), Memory>
-    ensures { OnOk result (out.new.items ≡ out.old.items ++ model.block_at_text parts.now number) }
+    ensures { Puts result out.old out.new (model.block_at_text parts.now number) }
 {
     match block_of(parts.blocks.as_slice(), number) {
         Some(block) => put_block(out, parts, block),
@@ -89,8 +91,7 @@ fn resting_place(block: Option<&Block>) -> &'static str
 
 /// What became of who entered a block: nothing is said where it is still active.
 fn put_rest(out: &mut Vec<u8>, step: &Step<'_>, block: Option<&Block>) -> Result<(), Memory>
-    ensures { OnOk result (out.new.items ≡ out.old.items
-        ++ model.rest_text step.now.before.now step.now.sim.now.state (option_copied block.entry)) }
+    ensures { Puts result out.old out.new (of_step step.now model.rest_text (option_copied block.entry)) }
 {
     if step.sim.active().is_some() {
         Ok(())
@@ -113,15 +114,14 @@ fn released_by(block: Option<&Block>) -> Option<u16>
 
 /// To whom a facility was handed over.
 fn put_heir(out: &mut Vec<u8>, sim: &Sim, facility: u16) -> Result<(), Memory>
-    ensures { OnOk result (out.new.items ≡ out.old.items
-        ++ model.heir_text sim.now.state facility) }
+    ensures { Puts result out.old out.new (model.heir_text sim.now.state facility) }
 {
     put_number(out, ", handed over to ", sim.owner(facility).unwrap_or(0))
 }
 
 /// How many waiters were let in.
 fn put_let_in_count(out: &mut Vec<u8>, count: usize) -> Result<(), Memory>
-    ensures { OnOk result (out.new.items ≡ out.old.items ++ model.let_in_count count) }
+    ensures { Puts result out.old out.new (model.let_in_count count) }
 {
     put_number(out, ", let in from its delay list: ", count)
 }
@@ -133,8 +133,7 @@ fn put_taken(
     count: usize,
     released: Option<u16>,
 ) -> Result<(), Memory>
-    ensures { OnOk result (out.new.items ≡ out.old.items
-        ++ model.taken_text sim.now.state count released) }
+    ensures { Puts result out.old out.new (model.taken_text sim.now.state count released) }
 {
     match released {
         Some(facility) => put_heir(out, sim, facility),
@@ -144,8 +143,7 @@ fn put_taken(
 
 /// The same, if somebody left a delay list.
 fn put_let_in(out: &mut Vec<u8>, step: &Step<'_>, block: Option<&Block>) -> Result<(), Memory>
-    ensures { OnOk result (out.new.items ≡ out.old.items
-        ++ model.let_in_text step.now.before.now step.now.sim.now.state (option_copied block.entry)) }
+    ensures { Puts result out.old out.new (of_step step.now model.let_in_text (option_copied block.entry)) }
 {
     let count = let_in(step.before, step.sim);
     if count == 0 {
@@ -156,8 +154,7 @@ fn put_let_in(out: &mut Vec<u8>, step: &Step<'_>, block: Option<&Block>) -> Resu
 
 /// An entry of the block of a number, from 1, and what became of it.
 fn put_entry(out: &mut Vec<u8>, parts: &Parts, step: &Step<'_>, number: u16) -> Result<(), Memory>
-    ensures { OnOk result (out.new.items ≡ out.old.items
-        ++ model.entry_text parts.now step.now.before.now step.now.sim.now.state number) }
+    ensures { Puts result out.old out.new (of_step step.now (model.entry_text parts.now) number) }
 {
     put(out, "enters ")?;
     put_block_at(out, parts, number)?;
@@ -168,8 +165,7 @@ fn put_entry(out: &mut Vec<u8>, parts: &Parts, step: &Step<'_>, number: u16) -> 
 
 /// Two blocks, and a text between them.
 fn put_choice(out: &mut Vec<u8>, parts: &Parts, choice: Choice, between: &str) -> Result<(), Memory>
-    ensures { OnOk result (out.new.items ≡ out.old.items
-        ++ model.choice_text parts.now choice between.now) }
+    ensures { Puts result out.old out.new (model.choice_text parts.now choice between.now) }
 {
     put_block_at(out, parts, choice.first.block)?;
     put(out, between)?;
@@ -189,8 +185,7 @@ fn waiting_place(before: &Sight, sim: &Sim) -> &'static str
 
 /// A refusal by both of two blocks, and where the refused one rests.
 fn put_refusal_by_both(out: &mut Vec<u8>, parts: &Parts, choice: Choice) -> Result<(), Memory>
-    ensures { OnOk result (out.new.items ≡ out.old.items
-        ++ model.refusal_by_both parts.now choice) }
+    ensures { Puts result out.old out.new (model.refusal_by_both parts.now choice) }
 {
     put(out, "refused by both ")?;
     put_choice(out, parts, choice, " and ")?;
@@ -199,8 +194,7 @@ fn put_refusal_by_both(out: &mut Vec<u8>, parts: &Parts, choice: Choice) -> Resu
 
 /// A refusal, and where the refused one rests.
 fn put_refusal(out: &mut Vec<u8>, parts: &Parts, step: &Step<'_>) -> Result<(), Memory>
-    ensures { OnOk result (out.new.items ≡ out.old.items
-        ++ model.refusal_text parts.now step.now.before.now step.now.sim.now.state) }
+    ensures { Puts result out.old out.new (of_step step.now (model.refusal_text parts.now)) }
 {
     if let Some(choice) = step.before.choice {
         return put_refusal_by_both(out, parts, choice);
@@ -212,8 +206,7 @@ fn put_refusal(out: &mut Vec<u8>, parts: &Parts, step: &Step<'_>) -> Result<(), 
 
 /// What a transaction tried to enter: a block, or one of two.
 fn put_tried(out: &mut Vec<u8>, parts: &Parts, before: &Sight) -> Result<(), Memory>
-    ensures { OnOk result (out.new.items ≡ out.old.items
-        ++ model.tried_text before.now.choice parts.now before.now.next.block) }
+    ensures { Puts result out.old out.new (model.attempt_text parts.now before.now) }
 {
     match before.choice {
         None => put_block_at(out, parts, before.next.block),
@@ -223,7 +216,7 @@ fn put_tried(out: &mut Vec<u8>, parts: &Parts, before: &Sight) -> Result<(), Mem
 
 /// Where a run stopped by an end that changes nothing else.
 fn put_stop(out: &mut Vec<u8>, parts: &Parts, before: &Sight) -> Result<(), Memory>
-    ensures { OnOk result (out.new.items ≡ out.old.items ++ model.stop_text parts.now before.now) }
+    ensures { Puts result out.old out.new (model.stop_text parts.now before.now) }
 {
     match before.active {
         None => put(out, "nobody is left to move"),
@@ -241,8 +234,7 @@ fn put_happening(
     step: &Step<'_>,
     happening: Happening,
 ) -> Result<(), Memory>
-    ensures { OnOk result (out.new.items ≡ out.old.items
-        ++ model.happening_text parts.now step.now.before.now step.now.sim.now.state happening) }
+    ensures { Puts result out.old out.new (of_step step.now (model.happening_text parts.now) happening) }
 {
     match happening {
         Happening::Activation => put(out, "becomes active"),
@@ -255,14 +247,14 @@ fn put_happening(
 
 /// How many of the retry list were woken.
 fn put_woken_count(out: &mut Vec<u8>, count: usize) -> Result<(), Memory>
-    ensures { OnOk result (out.new.items ≡ out.old.items ++ model.woken_count count) }
+    ensures { Puts result out.old out.new (model.woken_count count) }
 {
     put_number(out, ", woken from the retry list: ", count)
 }
 
 /// The same, if any were.
 fn put_woken(out: &mut Vec<u8>, count: usize) -> Result<(), Memory>
-    ensures { OnOk result (out.new.items ≡ out.old.items ++ model.woken_text count) }
+    ensures { Puts result out.old out.new (model.woken_text count) }
 {
     if count == 0 {
         return Ok(());
@@ -272,7 +264,7 @@ fn put_woken(out: &mut Vec<u8>, count: usize) -> Result<(), Memory>
 
 /// The named end to which the run came, if it did.
 fn put_end(out: &mut Vec<u8>, sim: &Sim) -> Result<(), Memory>
-    ensures { OnOk result (out.new.items ≡ out.old.items ++ model.end_text sim.now.state.ended) }
+    ensures { Puts result out.old out.new (model.end_text sim.now.state.ended) }
 {
     match sim.status() {
         Status::Running => Ok(()),
@@ -285,8 +277,7 @@ fn put_end(out: &mut Vec<u8>, sim: &Sim) -> Result<(), Memory>
 
 /// The numbers of a transaction and of a block, each from 1; a dash for 0, which stands for none.
 fn put_numbers(out: &mut Vec<u8>, transaction: Option<u64>, block: u16) -> Result<(), Memory>
-    ensures { OnOk result (out.new.items ≡ out.old.items
-        ++ model.subject_columns transaction block) }
+    ensures { Puts result out.old out.new (model.subject_columns transaction block) }
 {
     put_number_or_dash(out, 8, transaction.unwrap_or(0))?;
     put_number_or_dash(out, 7, u64::from(block))
@@ -294,8 +285,7 @@ fn put_numbers(out: &mut Vec<u8>, transaction: Option<u64>, block: u16) -> Resul
 
 /// The numbers of the transaction and of the block that a step was about.
 fn put_subject(out: &mut Vec<u8>, step: &Step<'_>, happening: Happening) -> Result<(), Memory>
-    ensures { OnOk result (out.new.items ≡ out.old.items
-        ++ model.subject step.now.before.now step.now.sim.now.state happening) }
+    ensures { Puts result out.old out.new (of_step step.now model.subject happening) }
 {
     match happening {
         Happening::Activation => put_numbers(out, step.sim.active(), next_block(step.sim)),
@@ -306,7 +296,7 @@ fn put_subject(out: &mut Vec<u8>, step: &Step<'_>, happening: Happening) -> Resu
 
 /// How many are on the current events chain, on the future events chain, on delay lists and on the retry list.
 fn put_lengths(out: &mut Vec<u8>, sim: &Sim) -> Result<(), Memory>
-    ensures { OnOk result (out.new.items ≡ out.old.items ++ model.lengths sim.now.state) }
+    ensures { Puts result out.old out.new (model.lengths sim.now.state) }
 {
     put_column(out, 7, sim.current_events())?;
     put_column(out, 7, sim.future_events())?;
@@ -317,8 +307,7 @@ fn put_lengths(out: &mut Vec<u8>, sim: &Sim) -> Result<(), Memory>
 /// The columns of a line.
 #[tactic(auto, unfolding(crate::specs::Lines::columns))]
 fn put_columns(out: &mut Vec<u8>, step: &Step<'_>, happening: Happening) -> Result<(), Memory>
-    ensures { OnOk result (out.new.items ≡ out.old.items
-        ++ model.columns step.now.before.now step.now.sim.now.state happening) }
+    ensures { Puts result out.old out.new (of_step step.now model.columns happening) }
 {
     put_column(out, 12, step.sim.clock())?;
     put_subject(out, step, happening)?;
@@ -334,8 +323,7 @@ fn put_words(
     step: &Step<'_>,
     happening: Happening,
 ) -> Result<(), Memory>
-    ensures { OnOk result (out.new.items ≡ out.old.items
-        ++ model.words parts.now step.now.before.now step.now.sim.now.state happening) }
+    ensures { Puts result out.old out.new (of_step step.now (model.words parts.now) happening) }
 {
     put_happening(out, parts, step, happening)?;
     put_woken(out, woken(step.before, step.sim, happening))?;
@@ -345,8 +333,7 @@ fn put_words(
 
 /// The line of the step that led from what was seen to the state that a job is in.
 pub(crate) fn put_line(out: &mut Vec<u8>, before: &Sight, sim: &Sim) -> Result<(), Memory>
-    ensures { OnOk result (out.new.items ≡ out.old.items
-        ++ model.step_line sim.now.job.parts before.now sim.now.state) }
+    ensures { Puts result out.old out.new (model.step_line sim.now.job.parts before.now sim.now.state) }
 {
     let parts = sim.spec().verified().object().parts();
     let happening = what_happened(before, sim);

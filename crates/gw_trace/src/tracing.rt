@@ -1,11 +1,11 @@
 //! From a model text to the trace of its run.
 
-ghost use Rattle.std.specs.Prelude.{◌≡◌, ◌++◌, OnOk, IfOk, None, Some};
+ghost use Rattle.std.specs.Prelude.{◌≡◌, OnOk, IfOk, None, Some};
+ghost use Rattle.gw_report.specs.Report.{Puts};
 ghost use Rattle.gw_step.specs.Job.{Alone, IsReached, Step, start_of};
-ghost use Rattle.gw_answers.specs.Status.{ended as ended_status};
 ghost use Rattle.gw_model_jobs.specs.ModelJobs.{AnswersModel};
 ghost use Rattle.gw_model_jobs.specs.Running.{IsOver};
-ghost use Rattle.gw_trace.specs.Trace.{line_seen, line_within, heading, HasTraced, IsTrace};
+ghost use Rattle.gw_trace.specs.Trace.{sight_line, window_line, heading, AnswersTrace, HasTraced, IsTrace};
 
 use crate::line::put_line;
 use crate::sight::Sight;
@@ -37,8 +37,7 @@ fn put_line_within(
     before: &Sight,
     sim: &Sim,
 ) -> Result<(), Memory>
-    ensures { OnOk result (out.new.items ≡ out.old.items
-        ++ line_seen sim.now.job.parts window.from.0 window.to.0 before.now sim.now.state) }
+    ensures { Puts result out.old out.new (sight_line window before.now sim.now) }
 {
     if window.from.0 <= sim.clock() && sim.clock() <= window.to.0 {
         put_line(out, before, sim)
@@ -51,8 +50,7 @@ fn put_line_within(
 fn trace_step(out: &mut Vec<u8>, window: Window, sim: &mut Sim) -> Result<(), Memory>
     requires { sim.old.state.ended ≡ None }
     ensures made { OnOk result (Step sim.old.job sim.old.state sim.new.state) }
-    ensures line { OnOk result (out.new.items ≡ out.old.items
-        ++ line_within sim.old.job.parts window.from.0 window.to.0 sim.old.state sim.new.state) }
+    ensures line { Puts result out.old out.new (window_line window sim.old sim.new) }
     ensures job { sim.new.job ≡ sim.old.job }
     ensures reached { IsReached sim.new }
 {
@@ -85,8 +83,7 @@ fn trace_steps(out: &mut Vec<u8>, window: Window, sim: &mut Sim) -> Result<(), M
 fn trace_of_run(alloc: Global, sim: &mut Sim, window: Window) -> Result<Answer, Memory>
     requires budget { sim.old.job.budget ≡ BUDGET }
     requires start { start_of sim.old.job ≡ Some sim.old.state }
-    ensures { IfOk result (λ a. (a.status ≡ ended_status)
-        × IsTrace window.from.0 window.to.0 sim.old.job a.text.items) }
+    ensures { IfOk result (AnswersTrace window sim.old.job) }
 {
     let mut text = Vec::new(alloc);
     put(&mut text, HEADING)?;
@@ -100,8 +97,7 @@ fn trace_of_run(alloc: Global, sim: &mut Sim, window: Window) -> Result<Answer, 
 /// The trace of a job, from its start.
 fn trace_of_job(alloc: Global, spec: Spec, window: Window) -> Result<Answer, Memory>
     requires { spec.budget ≡ BUDGET }
-    ensures { IfOk result (λ a. (a.status ≡ ended_status)
-        × IsTrace window.from.0 window.to.0 spec a.text.items) }
+    ensures { IfOk result (AnswersTrace window spec) }
 {
     match Sim::start(alloc, spec) {
         Ok(mut sim) => {

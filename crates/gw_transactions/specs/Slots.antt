@@ -1,5 +1,5 @@
 -- The tables by number that the slots of a slab make: each slot that is taken has a number and a value.
-use Rattle.std.specs.Prelude.{◌≡◌, ℕ, suc, ◌-◌, ◌^◌, ◌<◌, ◌≤◌, ◌==◌, min, List, [], ◌∷◌, replicate, Option, Some, None, slice_index_or, unwrap_or, if◌then◌else◌}
+use Rattle.std.specs.Prelude.{◌≡◌, ℕ, suc, ◌+◌, ◌-◌, ◌^◌, ◌<◌, ◌≤◌, ◌==◌, min, List, [], ◌∷◌, replicate, Option, Some, None, slice_index_or, unwrap_or, if◌then◌else◌}
 use Rattle.slab.specs.Slab.{Slab, slab_len, get, ContainsKey}
 use Rattle.gw_transactions.specs.declared.Kept.{Kept}
 use Rattle.gw_num.specs.Table.{at, put}
@@ -53,6 +53,11 @@ pub record AreNumbered {X : Type 0} (slots : List (Option (ℕ × X))) (next : �
 -- the count of each block is how many have it as their current one
 abbrev pub AreCounted : List ℕ → List (Option LiveTransaction) → Type 0
 AreCounted counts txs = (block : ℕ) → at 0 counts block ≡ here_count block txs
+
+-- by the counts of blocks one goes from a block to another, which may be the same
+abbrev pub CountsGo : ℕ → ℕ → List ℕ → List ℕ → Type 0
+CountsGo from to old new =
+    (b : ℕ) → at 0 new b + (if from == b then 1 else 0) ≡ at 0 old b + (if to == b then 1 else 0)
 
 -- each has parameters up to the same number, under a key of its own if there are any; where there are none nothing is kept
 pub record HaveTheirOwn (last : ℕ) (beside : Slab Numbered) (slots : List (Option (ℕ × Kept))) : Type 0 where

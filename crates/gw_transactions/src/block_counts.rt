@@ -2,6 +2,7 @@
 
 ghost use Rattle.std.specs.Prelude.{◌≡◌, ◌≤◌, ◌<◌, ◌+◌, ◌^◌, ◌==◌, if◌then◌else◌, ℕ, IfOk, length, replicate};
 ghost use Rattle.gw_num.specs.Table.{at};
+ghost use Rattle.gw_transactions.specs.Slots.{CountsGo};
 
 use gw_members::Memory;
 use std::alloc::Global;
@@ -86,8 +87,7 @@ impl BlockCounts {
         requires there { 0 < at 0 self.old from }
         requires block { to ≤ 4096 }
         requires few { at 0 self.old to ≤ 2 ^ 62 }
-        ensures { (b : ℕ) → at 0 self.new b + (if from == b then 1 else 0)
-            ≡ at 0 self.old b + (if to == b then 1 else 0) }
+        ensures { CountsGo from to self.old self.new }
     {
         let counts = self.counts.as_mut_slice();
         lower(counts, from);

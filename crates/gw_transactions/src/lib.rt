@@ -1,7 +1,7 @@
 //! The transactions of a job: each is kept under a number of its own, and contracts see tables by number.
 #![tactic(auto)]
 
-ghost use Rattle.std.specs.Prelude.{◌≡◌, ◌≤◌, ℕ, pos, None, Some, ◌<◌, ◌+◌, ◌^◌, ◌∷◌, [], length, replicate, unwrap_or, IfOk, OnOk, OnErr, IsPermutation};
+ghost use Rattle.std.specs.Prelude.{◌≡◌, ◌≤◌, ℕ, pos, None, Some, ◌<◌, ◌+◌, ◌^◌, ◌∷◌, [], length, unwrap_or, IfOk, OnOk, OnErr, IsPermutation};
 ghost use Rattle.std.specs.Option.{IsSome};
 ghost use Rattle.gw_num.specs.Table.{at, put};
 ghost use Rattle.gw_transactions.specs.Parameters.{none_of};
@@ -86,7 +86,7 @@ impl Model for Transactions {
 }
 
 impl Transactions {
-    ghost use Rattle.gw_transactions.specs.Transactions.{Holds, KeepsHandles, KeepsOtherHandles, KeepsRest, IsSound, with_newcomer, with_place, attributes_at, put_attributes, chain_of, put_chain, kept_of, put_parameter, listed, live_count, here_count};
+    ghost use Rattle.gw_transactions.specs.Transactions.{Holds, KeepsHandles, KeepsOtherHandles, KeepsRest, IsSound, with_newcomer, with_place, attributes_at, put_attributes, StepsTo, kept_copies, chain_of, put_chain, kept_of, put_parameter, listed, live_count, here_count};
 
     /// None yet: the first number is 1. Each will have as many parameters. It takes memory for the counts of `here`, and none
     /// for transactions.
@@ -196,7 +196,7 @@ impl Transactions {
     /// It fails for want of memory.
     pub fn parameters_for(&self, tx: Tx, copies: u16) -> Result<Vec<Parameters>, Memory>
         requires { Holds self.now tx }
-        ensures { IfOk result (λ all. all.items ≡ replicate copies (kept_of tx.number self.now)) }
+        ensures { IfOk result (λ v. v.items ≡ kept_copies copies tx.number self.now) }
     {
         let parameters = self.parameters(tx);
         let mut all = Vec::with_capacity(self.alloc, copies as usize)?;
@@ -269,9 +269,7 @@ impl Transactions {
     pub fn step_to(&mut self, tx: Tx, current: u16, next: u16)
         requires held { Holds self.old tx }
         requires block { current ≤ 4096 }
-        ensures txs { (t : Transaction) → attributes_at tx.number self.old.txs ≡ Some t
-            → let stepped = record t { current = current; next = next } in
-            self.new.txs ≡ put_attributes tx.number stepped self.old.txs }
+        ensures txs { StepsTo tx.number current next self.old.txs self.new.txs }
         ensures rest { KeepsRest self.old self.new }
         ensures handles { KeepsHandles self.old self.new }
     {

@@ -1,5 +1,6 @@
 -- The rules of weights of an object, as rules at places.
-use Rattle.std.specs.Prelude.{ℕ, suc, ◌+◌, ◌*◌, List, [], ◌∷◌, ◌++◌, slice_get, Option, Some, None, is_some, ◌&&◌, nat_lt, if◌then◌else◌}
+use Rattle.std.specs.Prelude.{◌≡◌, ℕ, suc, ◌+◌, ◌*◌, List, [], ◌∷◌, ◌++◌, Result, IfOk, Vec, slice_get, Option, Some, None, is_some, ◌&&◌, nat_lt, if◌then◌else◌}
+use Rattle.std.specs.Global.{Global}
 use Rattle.std.specs.List.{flat_map}
 use Rattle.std.specs.Option.{option_flatten, option_to_list}
 use Rattle.gw_blocks.specs.declared.parts.Block.{Block}
@@ -58,6 +59,10 @@ rules_of_blocks y p = from_place (rules_of_block y p) 0 p.blocks
 -- of all return rows
 abbrev pub rules_of_rows : Layout → Parts → List Rule
 rules_of_rows y p = from_place (λ r (row : ReturnRow). rules_of_row y r row.blocks) 0 p.returns
+
+-- unless there is no memory, these rules come behind others
+abbrev pub AddsRules : {A E : Type 0} → Result A E → Vec Rule Global → Vec Rule Global → List Rule → Type 0
+AddsRules result old new more = IfOk result (λ _. new.items ≡ old.items ++ more)
 
 -- of an object
 unfoldable pub rules_of : Layout → Parts → List Rule

@@ -1,9 +1,10 @@
 //! The rules of weights of an object, as rules at places.
 
-ghost use Rattle.std.specs.Prelude.{◌≡◌, ◌++◌, ◌<◌, ◌≤◌, IfOk, option_map, option_to_list, length};
+ghost use Rattle.std.specs.Prelude.{◌≡◌, ◌<◌, ◌≤◌, IfOk, option_map, option_to_list, length};
 ghost use Rattle.gw_blocks.specs.declared.parts.Block.TheVariants as blocks;
 ghost use Rattle.gw_weighing.specs.Certificates.{IsCounted};
 ghost use Rattle.gw_weighing.specs.Rules as model;
+ghost use Rattle.gw_weighing.specs.Rules.{AddsRules};
 
 use crate::layout::Layout;
 use crate::sums::{first_sum, second_sum};
@@ -86,7 +87,7 @@ fn gathering_rule(layout: Layout, row: u16, block: u16) -> Option<Rule>
 
 /// Adds a rule, if there is one.
 fn add(rules: &mut Vec<Rule>, rule: Option<Rule>) -> Result<(), Memory>
-    ensures { IfOk result (λ _. rules.new.items ≡ rules.old.items ++ option_to_list rule) }
+    ensures { AddsRules result rules.old rules.new (option_to_list rule) }
 {
     if let Some(rule) = rule {
         rules.push(rule)?;
@@ -103,7 +104,7 @@ fn add_block(
     block: &Block,
 ) -> Result<(), Memory>
     requires { place < 4096 }
-    ensures { IfOk result (λ _. rules.new.items ≡ rules.old.items ++ model.rules_of_block layout parts.now place block.now) }
+    ensures { AddsRules result rules.old rules.new (model.rules_of_block layout parts.now place block.now) }
 {
     rules.push(block_rule(layout, parts, place, block))?;
     add(rules, chain_rule(layout, parts, place, block))
@@ -112,7 +113,7 @@ fn add_block(
 /// Adds the rules of all blocks.
 fn add_blocks(rules: &mut Vec<Rule>, layout: Layout, parts: &Parts) -> Result<(), Memory>
     requires { length parts.now.blocks ≤ 4096 }
-    ensures { IfOk result (λ _. rules.new.items ≡ rules.old.items ++ model.rules_of_blocks layout parts.now) }
+    ensures { AddsRules result rules.old rules.new (model.rules_of_blocks layout parts.now) }
 {
     let blocks = parts.blocks.as_slice();
     for i in 0..blocks.len() {
@@ -123,7 +124,7 @@ fn add_blocks(rules: &mut Vec<Rule>, layout: Layout, parts: &Parts) -> Result<()
 
 /// Adds the rules of the return row of this number, from 0, which has these blocks.
 fn add_row(rules: &mut Vec<Rule>, layout: Layout, row: u16, blocks: &[u16]) -> Result<(), Memory>
-    ensures { IfOk result (λ _. rules.new.items ≡ rules.old.items ++ model.rules_of_row layout row blocks.now) }
+    ensures { AddsRules result rules.old rules.new (model.rules_of_row layout row blocks.now) }
 {
     for i in 0..blocks.len() {
         add(rules, gathering_rule(layout, row, blocks[i]))?;
@@ -134,7 +135,7 @@ fn add_row(rules: &mut Vec<Rule>, layout: Layout, row: u16, blocks: &[u16]) -> R
 /// Adds the rules of all return rows.
 fn add_rows(rules: &mut Vec<Rule>, layout: Layout, parts: &Parts) -> Result<(), Memory>
     requires { length parts.now.returns ≤ 4096 }
-    ensures { IfOk result (λ _. rules.new.items ≡ rules.old.items ++ model.rules_of_rows layout parts.now) }
+    ensures { AddsRules result rules.old rules.new (model.rules_of_rows layout parts.now) }
 {
     let returns = parts.returns.as_slice();
     for i in 0..returns.len() {

@@ -1,11 +1,16 @@
 -- What the program writes.
-use Rattle.std.specs.Prelude.{◌≡◌, ◌⊎◌, ℕ, ◌+◌, List, take, Option, Bool, true, false}
+use Rattle.std.specs.Prelude.{◌≡◌, ◌⊎◌, ℕ, ◌+◌, List, take, Option, Bool, true, false, MatchOption}
 use Rattle.gw_object.specs.declared.limits.TheConstants.{MOST_BYTES}
-use Rattle.gw_answers.specs.Status.{ended, no_memory}
+use Rattle.gw_answers.specs.Status.{ended, no_memory, wrong_words}
 use Rattle.gw_answers.specs.Requests.{Answering}
 use Rattle.gw_console.specs.Output.{Writes, Responds, memory_line}
 use Rattle.gw_explain.specs.Meaning.{meaning}
-use Rattle.gw_command_line.specs.Words.{Act, Ask, Charts, Code, Help, Version, Studies, Compares, Rows, Sums, Object, Shares, Demand}
+use Rattle.gw_command_line.specs.Words.{Act, Ask, Charts, Code, Help, Version, Studies, Compares, Rows, Sums, Object, Shares, Demand, command_in, study_view}
+use Rattle.gw_command_line.specs.Rows.{runs_view, lone_view}
+use Rattle.gw_command_line.specs.declared.rows.LoneRun.{LoneRun}
+use Rattle.gw_command_line.specs.declared.rows.Runs.{Runs}
+use Rattle.gw_command_line.specs.declared.words.Chart.{Chart}
+use Rattle.gw_command_line.specs.declared.words.Study.{Study}
 use Rattle.gw_command_line.specs.declared.rows.Summing.{Summing}
 use Rattle.gw_summary.specs.Telling.{IsSummaryOf}
 use Rattle.gw_summary.specs.declared.telling.SummaryRequest.{SummaryRequest}
@@ -28,6 +33,19 @@ answering question bytes = asked question (take (MOST_BYTES + 1) bytes)
 -- about what stands on a reader, up to a model's limit and one byte
 abbrev pub of_front : Answering → Answering
 of_front Asked bytes = Asked (take (MOST_BYTES + 1) bytes)
+
+-- the same, by what the code has of the command line
+abbrev pub charting_by : Chart → Answering
+charting_by chart = charting chart.span chart.name.now
+
+abbrev pub studying_by : Bool → Study → Answering
+studying_by is_pair study = studying is_pair (study_view study)
+
+abbrev pub telling_rows : Runs → Answering
+telling_rows runs = of_front (rows_asked (runs_view runs))
+
+abbrev pub making_object : LoneRun → Answering
+making_object run = of_front (object_asked (lone_view run))
 
 -- a summary, by what the command line asks for
 abbrev pub summary_of : Summing → SummaryRequest
@@ -58,3 +76,9 @@ DoesCommand (Object demand) known result old new = Responds (of_front (object_as
 DoesCommand (Shares shard) known result old new = Responds (of_front (share_asked shard)) known result old new
 DoesCommand Help known result old new = Writes HELP.now ended result old new
 DoesCommand Version known result old new = Writes VERSION.now ended result old new
+
+-- the words of a command line name a command, which is carried out; or they are wrong, and the usage line is written
+abbrev pub DoesWords : List (List ℕ) → Option (List ℕ) → ℕ → Option (List ℕ) → Option (List ℕ) → Type 0
+DoesWords words known result old new =
+    MatchOption (command_in words) (Writes usage_line wrong_words result old new)
+    (λ command. DoesCommand command known result old new)

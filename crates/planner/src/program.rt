@@ -1,14 +1,14 @@
 //! The program, over its words, a reader and a writer.
 
-ghost use Rattle.std.specs.Prelude.{◌≡◌, ◌≢◌, ◌+◌, [], ◌∷◌, map, false, None, IfOk, OnOk, MatchOption, Contains};
+ghost use Rattle.std.specs.Prelude.{◌≡◌, ◌≢◌, ◌+◌, [], ◌∷◌, map, false, None, IfOk, OnOk, Contains};
 ghost use Rattle.std.specs.String.{string_bytes};
-ghost use Rattle.gw_answers.specs.Status.{ended, refused, wrong_words, failed, no_memory};
-ghost use Rattle.gw_console.specs.Output.{AnswersReader, Writes, Delivers};
+ghost use Rattle.gw_answers.specs.Requests.{AnswersAs};
+ghost use Rattle.gw_answers.specs.Status.{ended, refused, failed, no_memory};
+ghost use Rattle.gw_console.specs.Output.{AnswersReader, Delivers};
 ghost use Rattle.gw_console.specs.Calls.{LosesFront, LosesAtMost, TellsReads, TellsCalls};
 ghost use Rattle.gw_command_line.specs.Asking.{MayBeMade};
-ghost use Rattle.gw_command_line.specs.Words.{command_in, study_view};
 ghost use Rattle.gw_explain.specs.Meaning.{meaning};
-ghost use Rattle.planner.specs.Answers.{answering, charting, studying, Tells, DoesCommand, usage_line};
+ghost use Rattle.planner.specs.Answers.{answering, charting_by, studying_by, DoesWords, Tells};
 
 use crate::help::{HELP, USAGE, VERSION};
 use crate::rows::{ask_object, ask_runs, ask_shard, ask_summary};
@@ -32,8 +32,7 @@ fn read_and_answer<R: Read>(
     reader: &mut Input<R>,
 ) -> Result<Answer, ProgramFault>
     requires reader { reader.old.failed ≡ false }
-    ensures answer { IfOk result (λ a.
-        AnswersReader (answering question) reader.old.left a.text.items a.status) }
+    ensures answer { AnswersAs result (AnswersReader (answering question) reader.old.left) }
     ensures told { TellsReads result reader.old.failed reader.new.failed }
     ensures whole { OnOk result (LosesFront (MOST_BYTES + 1) reader.old.left reader.new.left) }
     ensures limited { LosesAtMost (MOST_BYTES + 1) reader.old.left reader.new.left }
@@ -66,8 +65,7 @@ fn read_and_draw<R: Read>(
     reader: &mut Input<R>,
 ) -> Result<Answer, ProgramFault>
     requires reader { reader.old.failed ≡ false }
-    ensures answer { IfOk result (λ a.
-        AnswersReader (charting asked.now.span asked.now.name.now) reader.old.left a.text.items a.status) }
+    ensures answer { AnswersAs result (AnswersReader (charting_by asked.now) reader.old.left) }
     ensures told { TellsReads result reader.old.failed reader.new.failed }
     ensures whole { OnOk result (LosesFront (MOST_BYTES + 1) reader.old.left reader.new.left) }
     ensures limited { LosesAtMost (MOST_BYTES + 1) reader.old.left reader.new.left }
@@ -85,7 +83,7 @@ pub fn ask_chart<R: Read, W: Write>(
 ) -> u8
     requires reader { reader.old.failed ≡ false }
     requires writer { writer.old.failed ≡ false }
-    ensures written { Delivers (charting asked.now.span asked.now.name.now)
+    ensures written { Delivers (charting_by asked.now)
         reader.old.left result writer.old.held writer.new.held }
     ensures calls { TellsCalls result reader.old reader.new writer.old writer.new }
 {
@@ -102,8 +100,7 @@ fn read_and_study<R: Read, T: Threads + Wait + Sync + Eprint>(
 ) -> Result<Answer, ProgramFault>
     requires made { MayBeMade study.now }
     requires reader { reader.old.failed ≡ false }
-    ensures answer { IfOk result (λ a.
-        AnswersReader (studying is_pair (study_view study.now)) reader.old.left a.text.items a.status) }
+    ensures answer { AnswersAs result (AnswersReader (studying_by is_pair study.now) reader.old.left) }
     ensures told { TellsReads result reader.old.failed reader.new.failed }
     ensures whole { OnOk result (LosesFront (MOST_BYTES + 1) reader.old.left reader.new.left) }
     ensures limited { LosesAtMost (MOST_BYTES + 1) reader.old.left reader.new.left }
@@ -125,7 +122,7 @@ pub fn ask_study<R: Read, W: Write, T: Threads + Wait + Sync + Eprint>(
     requires made { MayBeMade study.now }
     requires reader { reader.old.failed ≡ false }
     requires writer { writer.old.failed ≡ false }
-    ensures written { Delivers (studying is_pair (study_view study.now))
+    ensures written { Delivers (studying_by is_pair study.now)
         reader.old.left result writer.old.held writer.new.held }
     ensures calls { TellsCalls result reader.old reader.new writer.old writer.new }
 {
@@ -151,9 +148,7 @@ pub fn dispatch<R: Read, W: Write, T: Threads + Wait + Sync + Eprint>(
 ) -> u8
     requires reader { reader.old.failed ≡ false }
     requires writer { writer.old.failed ≡ false }
-    ensures { MatchOption (command_in (map string_bytes words.now))
-        (Writes usage_line wrong_words result writer.old.held writer.new.held)
-        (λ command. DoesCommand command reader.old.left result writer.old.held writer.new.held) }
+    ensures { DoesWords (map string_bytes words.now) reader.old.left result writer.old.held writer.new.held }
 {
     match command_of(words) {
         Some(Command::Ask(question)) => ask(alloc, question, reader, writer),

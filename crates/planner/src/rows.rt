@@ -1,15 +1,15 @@
 //! Runs on many machines: rows, shares, summaries, and the object of a run.
 
 ghost use Rattle.std.specs.Prelude.{◌≡◌, ◌+◌, ◌<◌, [], length, false, IfOk, OnOk};
+ghost use Rattle.gw_answers.specs.Requests.{AnswersAs};
 ghost use Rattle.gw_answers.specs.Status.{refused as refused_status};
 ghost use Rattle.gw_command_line.specs.Asking.{AreRunsFit, IsRunFit, IsShardFit};
-ghost use Rattle.gw_command_line.specs.Rows.{runs_view, lone_view};
 ghost use Rattle.gw_console.specs.Output.{AnswersReader, Delivers};
 ghost use Rattle.gw_console.specs.Calls.{LosesFront, LosesAtMost, TellsReads, TellsCalls};
 ghost use Rattle.gw_summary.specs.Keeping.{IsRead};
 ghost use Rattle.planner.specs.Reading.{ReadsAll, ReadsPiece, TellsRows};
-ghost use Rattle.gw_planner.specs.Answers.{rows_asked, share_asked, object_asked};
-ghost use Rattle.planner.specs.Answers.{of_front, summed};
+ghost use Rattle.gw_planner.specs.Answers.{share_asked};
+ghost use Rattle.planner.specs.Answers.{making_object, of_front, summed, telling_rows};
 
 use gw_answers::Answer;
 use gw_answers::status::REFUSED;
@@ -44,8 +44,7 @@ fn read_and_run<R: Read, T: Threads + Sync + Eprint>(
 ) -> Result<Answer, ProgramFault>
     requires fit { AreRunsFit runs.now }
     requires reader { reader.old.failed ≡ false }
-    ensures answer { IfOk result (λ a.
-        AnswersReader (of_front (rows_asked (runs_view runs.now))) reader.old.left a.text.items a.status) }
+    ensures answer { AnswersAs result (AnswersReader (telling_rows runs.now) reader.old.left) }
     ensures told { TellsReads result reader.old.failed reader.new.failed }
     ensures whole { OnOk result (LosesFront (MOST_BYTES + 1) reader.old.left reader.new.left) }
     ensures limited { LosesAtMost (MOST_BYTES + 1) reader.old.left reader.new.left }
@@ -66,7 +65,7 @@ pub fn ask_runs<R: Read, W: Write, T: Threads + Sync + Eprint>(
     requires fit { AreRunsFit runs.now }
     requires reader { reader.old.failed ≡ false }
     requires writer { writer.old.failed ≡ false }
-    ensures written { Delivers (of_front (rows_asked (runs_view runs.now)))
+    ensures written { Delivers (telling_rows runs.now)
         reader.old.left result writer.old.held writer.new.held }
     ensures calls { TellsCalls result reader.old reader.new writer.old writer.new }
 {
@@ -82,8 +81,7 @@ fn read_and_share<R: Read, T: Threads + Sync + Eprint>(
 ) -> Result<Answer, ProgramFault>
     requires fit { IsShardFit shard }
     requires reader { reader.old.failed ≡ false }
-    ensures answer { IfOk result (λ a.
-        AnswersReader (of_front (share_asked shard)) reader.old.left a.text.items a.status) }
+    ensures answer { AnswersAs result (AnswersReader (of_front (share_asked shard)) reader.old.left) }
     ensures told { TellsReads result reader.old.failed reader.new.failed }
     ensures whole { OnOk result (LosesFront (MOST_BYTES + 1) reader.old.left reader.new.left) }
     ensures limited { LosesAtMost (MOST_BYTES + 1) reader.old.left reader.new.left }
@@ -118,8 +116,7 @@ fn read_and_make<R: Read>(
 ) -> Result<Answer, ProgramFault>
     requires fit { IsRunFit run.now }
     requires reader { reader.old.failed ≡ false }
-    ensures answer { IfOk result (λ a.
-        AnswersReader (of_front (object_asked (lone_view run.now))) reader.old.left a.text.items a.status) }
+    ensures answer { AnswersAs result (AnswersReader (making_object run.now) reader.old.left) }
     ensures told { TellsReads result reader.old.failed reader.new.failed }
     ensures whole { OnOk result (LosesFront (MOST_BYTES + 1) reader.old.left reader.new.left) }
     ensures limited { LosesAtMost (MOST_BYTES + 1) reader.old.left reader.new.left }
@@ -138,7 +135,7 @@ pub fn ask_object<R: Read, W: Write>(
     requires fit { IsRunFit run.now }
     requires reader { reader.old.failed ≡ false }
     requires writer { writer.old.failed ≡ false }
-    ensures written { Delivers (of_front (object_asked (lone_view run.now)))
+    ensures written { Delivers (making_object run.now)
         reader.old.left result writer.old.held writer.new.held }
     ensures calls { TellsCalls result reader.old reader.new writer.old writer.new }
 {
@@ -203,7 +200,7 @@ fn read_and_sum<R: Read>(
     reader: &mut Input<R>,
 ) -> Result<Answer, ProgramFault>
     requires { reader.old.failed ≡ false }
-    ensures answer { IfOk result (λ a. AnswersReader (summed summing) reader.old.left a.text.items a.status) }
+    ensures answer { AnswersAs result (AnswersReader (summed summing) reader.old.left) }
     ensures told { TellsReads result reader.old.failed reader.new.failed }
 {
     let mut pieces = Pieces::new(alloc);

@@ -1,9 +1,9 @@
 use Rattle.std.proofs.Common.{rules, ◌≡◌, ◌∙◌, ℕ, ℤ, List, [], ◌∷◌, Option, Some, None, true, false, option_map, ap, subst}
 use Rattle.std.specs.Prelude.{int_le}
 use Rattle.slab.specs.Slab.{get}
-use Rattle.gw_members.specs.Chain.{first, due}
+use Rattle.gw_members.specs.Chain.{first}
+use Rattle.gw_members.specs.Members.{first_due}
 use Rattle.gw_members.specs.declared.tx.Event.{Event}
-use Rattle.gw_members.specs.declared.tx.Tx.{Tx}
 use Rattle.gw_chains.specs.Chunks.{all_of}
 use Rattle.gw_chains.specs.Events.{Bucketed}
 use Rattle.gw_chains.specs.Buckets.{members_of, AreBuckets}
@@ -12,18 +12,14 @@ use Rattle.gw_chains.specs.declared.bucket.Link.{Link}
 use Rattle.gw_chains.proofs.Leaving.{first_rank_of}
 use Rattle.gw_chains.proofs.event_buckets.EventBuckets.pop_due.Goals as goal
 
--- the handle of the first that is due, if one is
-abbrev due_first : ℤ → List Event → Option Tx
-due_first now xs = option_map (λ (e : Event). e.tx) (first (due (λ (e : Event). e.time) now xs))
-
-none_due : (now rank : ℤ) (xs : List Event) → Some rank ≡ option_map (λ (e : Event). e.time) (first xs) → int_le rank now ≡ false → None ≡ due_first now xs
+none_due : (now rank : ℤ) (xs : List Event) → Some rank ≡ option_map (λ (e : Event). e.time) (first xs) → int_le rank now ≡ false → None ≡ first_due now xs
 none_due now rank [] is later = absurd cc
 none_due now rank (x ∷ xs) is later =
     let same : rank ≡ x.time = cc in
     let fails : int_le x.time now ≡ false = subst (λ r. int_le r now ≡ false) same later in
     rw fails (λ i. None)
 
-one_due : (now rank : ℤ) (xs : List Event) (e : Event) → Some rank ≡ option_map (λ (e : Event). e.time) (first xs) → int_le rank now ≡ true → Some e ≡ first xs → Some e.tx ≡ due_first now xs
+one_due : (now rank : ℤ) (xs : List Event) (e : Event) → Some rank ≡ option_map (λ (e : Event). e.time) (first xs) → int_le rank now ≡ true → Some e ≡ first xs → Some e.tx ≡ first_due now xs
 one_due now rank [] e is due none = absurd cc
 one_due now rank (x ∷ xs) e is due there =
     let same : rank ≡ x.time = cc in
