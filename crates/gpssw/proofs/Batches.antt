@@ -4,7 +4,7 @@ use Rattle.std.specs.Io.KnownBytes.{Consumes, Keeps, Appends}
 use Rattle.std.proofs.KnownBytes.{Keeps-refl, Appends-nil, Appends-kept, Appends-trans}
 use Rattle.gw_object.specs.declared.fault.Fault.{Fault}
 use Rattle.gw_answers.specs.Refusal.{refusal_line}
-use Rattle.gw_answers.specs.Status.{refused, no_memory}
+use Rattle.gw_answers.specs.Status.{refusal_status, no_memory}
 use Rattle.gw_batch.specs.Codes.{words_fault}
 use Rattle.gw_batch.specs.declared.entry.Entry.{Entry as StoredEntry}
 use Rattle.gw_batch.specs.Batch.{Entry, entry_of, entries, unread, most_objects}
@@ -58,7 +58,7 @@ same_left None = tt
 same_left (Some bytes) = refl
 
 pub words_answered : (workers slice : ℕ) (old : Option (List ℕ)) (fault : Fault) (text : List ℕ) (status : ℕ) → words_fault workers slice ≡ Some fault
-    → text ≡ refusal_line fault → status ≡ refused → AnswersReader (IsPool workers slice) old text status
+    → text ≡ refusal_line fault → status ≡ refusal_status → AnswersReader (IsPool workers slice) old text status
 words_answered workers slice old fault text status out line ends = (left_of old, same_left old, rw out (ends, line))
 
 pub words_lost : (workers slice : ℕ) (old : Option (List ℕ)) (fault : Fault) → words_fault workers slice ≡ Some fault → LosesBatch workers slice old old

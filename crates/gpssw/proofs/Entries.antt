@@ -9,11 +9,11 @@ use Rattle.byteorder.specs.Endian.{big_number}
 use Rattle.byteorder.specs.Numbers.{big_from-append}
 use Rattle.gw_object.specs.declared.fault.Fault.{Fault}
 use Rattle.gw_object.specs.declared.limits.TheConstants.{MOST_BYTES}
-use Rattle.gw_object.specs.Codes.{truncated, limit}
+use Rattle.gw_object.specs.Codes.{truncation, limit}
 use Rattle.gw_answers.specs.Service.{nowhere, service_full}
 use Rattle.gw_batch.specs.declared.entry.Entry.{Entry as StoredEntry}
 use Rattle.gw_batch.specs.declared.entry.Entry.TheVariants as stored
-use Rattle.gw_batch.specs.Batch.{Entry, Object, Broken, Front, front, entry_of, sized, behind_length, first_entry, surplus, next_entry, with_next, past, entries, unread, most_objects}
+use Rattle.gw_batch.specs.Batch.{Entry, Object, Broken, Front, front, entry_of, sized_front, behind_length, first_entry, surplus, next_entry, with_next, past, entries, unread, most_objects}
 use Rattle.gw_console.specs.Calls.{LosesAtMost}
 use Rattle.gpssw.specs.Framing.{left_of, IsFirst, surplus_entry, GivesEntry, GivesBatch}
 
@@ -25,12 +25,12 @@ at_end None end = refl
 at_end (Some bytes) end = end
 
 -- a length above the limit
-pub too_long : (n : ℕ) (old : Option (List ℕ)) → MOST_BYTES < n → GivesEntry (λ bytes. Some (sized n bytes)) (Some (stored.Broken (nowhere limit))) old old
+pub too_long : (n : ℕ) (old : Option (List ℕ)) → MOST_BYTES < n → GivesEntry (λ bytes. Some (sized_front n bytes)) (Some (stored.Broken (nowhere limit))) old old
 too_long n old long = let test : nat_lt MOST_BYTES n ≡ true = grind (arith, nat_tests, long) in ([], Consumes-nil old, rw test refl)
 
 -- an object that is cut off
 pub cut_off : (n : ℕ) (old new : Option (List ℕ)) (bytes : List ℕ) → n ≤ MOST_BYTES → length bytes < n → Consumes old new bytes → IsAtEnd new
-    → GivesEntry (λ bs. Some (sized n bs)) (Some (stored.Broken (nowhere truncated))) old new
+    → GivesEntry (λ bs. Some (sized_front n bs)) (Some (stored.Broken (nowhere truncation))) old new
 cut_off n old new bytes within short taken end =
     let test : nat_lt MOST_BYTES n ≡ false = grind (arith, nat_tests, within) in
     let all : bytes ++ left_of new ≡ bytes = ap (λ rest. bytes ++ rest) (at_end new end) ∙ append-nil bytes in
@@ -39,7 +39,7 @@ cut_off n old new bytes within short taken end =
 
 -- an object that is whole
 pub whole_object : (n : ℕ) (old new : Option (List ℕ)) (object : Vec ℕ Global) → n ≤ MOST_BYTES → length object.items ≡ n → Consumes old new object.items
-    → GivesEntry (λ bs. Some (sized n bs)) (Some (stored.Object object)) old new
+    → GivesEntry (λ bs. Some (sized_front n bs)) (Some (stored.Object object)) old new
 whole_object n old new object within whole taken =
     let test : nat_lt MOST_BYTES n ≡ false = grind (arith, nat_tests, within) in (
       object.items,
@@ -56,7 +56,7 @@ no_entry old new (b ∷ bs) none taken end = absurd cc
 
 -- a length that is cut off
 pub cut_length : (old new : Option (List ℕ)) (bytes : List ℕ) → length bytes ≢ 0 → length bytes < 4 → Consumes old new bytes → IsAtEnd new
-    → GivesEntry first_entry (Some (stored.Broken (nowhere truncated))) old new
+    → GivesEntry first_entry (Some (stored.Broken (nowhere truncation))) old new
 cut_length old new bytes some short taken end =
     let all : bytes ++ left_of new ≡ bytes = ap (λ rest. bytes ++ rest) (at_end new end) ∙ append-nil bytes in
     let full : (length bytes == 0) ≡ false = grind (arith, nat_tests, some) in
@@ -64,7 +64,7 @@ cut_length old new bytes some short taken end =
     (bytes, taken, rw (all, full, cut, at_end new end) refl)
 
 -- what stands behind a whole length
-after_length : (bytes more : List ℕ) → length bytes ≡ 4 → first_entry (bytes ++ more) ≡ Some (sized (big_number 4 bytes) more)
+after_length : (bytes more : List ℕ) → length bytes ≡ 4 → first_entry (bytes ++ more) ≡ Some (sized_front (big_number 4 bytes) more)
 after_length bytes more four =
     let size : length (bytes ++ more) ≡ 4 + length more = length-append bytes more ∙ ap (λ n. n + length more) four in
     let full : (length (bytes ++ more) == 0) ≡ false = grind (arith, nat_tests, size) in
@@ -72,7 +72,7 @@ after_length bytes more four =
     let number : big_number 4 (bytes ++ more) ≡ big_number 4 bytes = big_from-append 4 bytes more (omega (arith, four)) in
     rw (full, enough, number, drop_at bytes more 4 four) refl
 
-behind_four : (bytes read left : List ℕ) (entry : Option StoredEntry) → length bytes ≡ 4 → IsFirst (λ bs. Some (sized (big_number 4 bytes) bs)) read left entry
+behind_four : (bytes read left : List ℕ) (entry : Option StoredEntry) → length bytes ≡ 4 → IsFirst (λ bs. Some (sized_front (big_number 4 bytes) bs)) read left entry
     → IsFirst first_entry (bytes ++ read) left entry
 behind_four bytes read left None four first = absurd cc
 behind_four bytes read left (Some (stored.Object object)) four first =
@@ -81,7 +81,7 @@ behind_four bytes read left (Some (stored.Broken fault)) four first = rw (append
 
 -- an entry behind its length
 pub sized_entry : (old mid new : Option (List ℕ)) (bytes : List ℕ) (entry : StoredEntry) → length bytes ≡ 4 → Consumes old mid bytes
-    → GivesEntry (λ bs. Some (sized (big_number 4 bytes) bs)) (Some entry) mid new → GivesEntry first_entry (Some entry) old new
+    → GivesEntry (λ bs. Some (sized_front (big_number 4 bytes) bs)) (Some entry) mid new → GivesEntry first_entry (Some entry) old new
 sized_entry old mid new bytes entry four taken given =
     (bytes ++ given.0, Consumes-trans old mid new bytes given.0 taken given.1, behind_four bytes given.0 (left_of new) (Some entry) four given.2)
 

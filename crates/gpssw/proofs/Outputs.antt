@@ -1,7 +1,7 @@
 -- With which statuses the answers of the program end.
 use Rattle.std.proofs.Common.{◌≡◌, ◌≢◌, ◌⊎◌, ℕ, List, Option, Some, None, Bool, true, false, MatchOption, inl, inr, arith, subst, sym, ◌∙◌}
 use Rattle.gw_object.specs.declared.fault.Fault.{Fault}
-use Rattle.gw_answers.specs.Status.{ended, refused, failed, no_memory}
+use Rattle.gw_answers.specs.Status.{end_status, refusal_status, failure_status, no_memory}
 use Rattle.gw_answers.specs.Refusal.{refusal_line}
 use Rattle.gw_batch.specs.Codes.{words_fault}
 use Rattle.gw_batch.specs.Batch.{Entry, entries, most_objects}
@@ -16,7 +16,7 @@ by_refused : (refused : Bool) (status : ℕ) → status ≡ status_if refused �
 by_refused true status h = inr h
 by_refused false status h = inl h
 
-batch_status : (o : Option Fault) (es : List Entry) (text : List ℕ) (status : ℕ) → MatchOption o (IsBatchTold es text status) (λ fault. (status ≡ refused) × (text ≡ refusal_line fault)) → IsEnd status
+batch_status : (o : Option Fault) (es : List Entry) (text : List ℕ) (status : ℕ) → MatchOption o (IsBatchTold es text status) (λ fault. (status ≡ refusal_status) × (text ≡ refusal_line fault)) → IsEnd status
 batch_status None es text status h = by_refused h.0 status h.2
 batch_status (Some fault) es text status h = inr h.0
 
@@ -25,7 +25,7 @@ pool_ends workers slice bytes text status h = batch_status (words_fault workers 
 
 -- whoever writes its output delivers it
 module _ (Answers : Answering) (ends : Ends Answers) (known : Option (List ℕ)) (result : ℕ) (old new : Option (List ℕ)) where
-  answered : (text : List ℕ) (status : ℕ) → IsOutput Answers known text status → Writes text status result old new → result ≢ failed → result ≢ no_memory → WritesAnswer Answers known result old new
+  answered : (text : List ℕ) (status : ℕ) → IsOutput Answers known text status → Writes text status result old new → result ≢ failure_status → result ≢ no_memory → WritesAnswer Answers known result old new
   answered text status output (inr h) whole enough = absurd (whole h.0)
   answered text status (inl answer) (inl h) whole enough = (text, subst (λ s. AnswersReader Answers known text s) (sym h.0) answer, h.1)
   answered text status (inr (inl is)) (inl h) whole enough = absurd (enough (h.0 ∙ is.1))

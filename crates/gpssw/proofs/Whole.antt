@@ -11,7 +11,7 @@ use Rattle.gw_text_tokens.specs.Codes.{length_fault}
 use Rattle.gw_object.specs.declared.fault.Place.TheVariants.{Line}
 use Rattle.gw_answers.specs.Answer.{IsAnswer, IsCheck, job_of, object_of}
 use Rattle.gw_answers.specs.Assembly.{IsAssembly, IsRefusedText, HasStatements}
-use Rattle.gw_answers.specs.Requests.{answering}
+use Rattle.gw_answers.specs.Requests.{answers_to}
 use Rattle.gw_answers.specs.declared.request.Request.{Request}
 use Rattle.gw_answers.specs.declared.request.Request.TheVariants.{Run, Check, Asm}
 use Rattle.gw_console.specs.Output.{AnswersReader}
@@ -62,13 +62,13 @@ assembly_of_front bytes text status answer = cases (nat_lt MOST_BYTES (length by
     subst (λ bs. IsAssembly bs text status) (take_all (MOST_BYTES + 1) bytes within) answer)
 
 -- the answer to such a front is that to all of the bytes
-of_front : (request : Request) (bytes text : List ℕ) (status : ℕ) → answering request (take (MOST_BYTES + 1) bytes) text status → answering request bytes text status
+of_front : (request : Request) (bytes text : List ℕ) (status : ℕ) → answers_to request (take (MOST_BYTES + 1) bytes) text status → answers_to request bytes text status
 of_front (Run seed count) bytes text status answer = rw (same_job seed count bytes) at answer
 of_front Check bytes text status answer = rw (same_object bytes) at answer
 of_front Asm bytes text status answer = assembly_of_front bytes text status answer
 
 -- what answers the bytes that were read answers the reader
 pub answers_reader : (request : Request) (known : Option (List ℕ)) (input text : List ℕ) (status : ℕ) → IfSome known (λ bytes. input ≡ take (MOST_BYTES + 1) bytes)
-    → answering request input text status → AnswersReader (answering request) known text status
+    → answers_to request input text status → AnswersReader (answers_to request) known text status
 answers_reader request None input text status h answer = (input, tt, answer)
-answers_reader request (Some bytes) input text status h answer = (bytes, refl, of_front request bytes text status (subst (λ bs. answering request bs text status) h answer))
+answers_reader request (Some bytes) input text status h answer = (bytes, refl, of_front request bytes text status (subst (λ bs. answers_to request bs text status) h answer))

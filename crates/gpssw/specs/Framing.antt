@@ -6,7 +6,7 @@ use Rattle.gw_batch.specs.Codes.{words_fault}
 use Rattle.gw_answers.specs.Service.{nowhere, service_full}
 use Rattle.gw_batch.specs.declared.entry.Entry.{Entry as StoredEntry}
 use Rattle.gw_batch.specs.declared.entry.Entry.TheVariants as stored
-use Rattle.gw_batch.specs.Batch.{Entry, Object, Broken, Front, front, entry_of, first_entry, sized, surplus, entries, unread, most_objects}
+use Rattle.gw_batch.specs.Batch.{Entry, Object, Broken, Front, front, entry_of, first_entry, sized_front, surplus, entries, unread, most_objects}
 
 -- the bytes that a reader has left; none where it doesn't tell them
 abbrev pub left_of : Option (List ℕ) → List ℕ
@@ -25,7 +25,7 @@ GivesEntry first entry old new = (read : List ℕ) × Consumes old new read × I
 
 -- those of an object of so many bytes
 abbrev pub GivesSized : ℕ → Option (List ℕ) → Option (List ℕ) → StoredEntry → Type 0
-GivesSized size old new entry = GivesEntry (λ bytes. Some (sized size bytes)) (Some entry) old new
+GivesSized size old new entry = GivesEntry (λ bytes. Some (sized_front size bytes)) (Some entry) old new
 
 -- the entry that an object too many is, if there is one
 abbrev pub surplus_entry : Bool → Option StoredEntry

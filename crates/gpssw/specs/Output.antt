@@ -17,15 +17,15 @@ abbrev pub usage_line : List ℕ
 usage_line = codes "usage: gpssw asm | check | run SEED COUNT | pool WORKERS SLICE\n"
 
 -- what answers the input of a command
-abbrev pub answering : Command → Answering
-answering (Single request) = requests.answering request
-answering (Pool workers slice watched) = IsPool workers slice
+abbrev pub command_answering : Command → Answering
+command_answering (Single request) = requests.answers_to request
+command_answering (Pool workers slice watched) = IsPool workers slice
 
 -- the output of these words: that of the command that they name, or the line on wrong words
 abbrev pub RespondsToWords : List (String Global) → Option (List ℕ) → ℕ → Option (List ℕ) → Option (List ℕ) → Type 0
 RespondsToWords words known result old new =
     MatchOption (command_in (map string_bytes words)) (Writes usage_line wrong_words result old new)
-    (λ command. Responds (answering command) known result old new)
+    (λ command. Responds (command_answering command) known result old new)
 
 -- what is told of a batch is written, or the line on want of memory; or, where a write failed, a front of that
 abbrev pub RespondsToBatch : List Entry → ℕ → Option (List ℕ) → Option (List ℕ) → Type 0

@@ -2,7 +2,7 @@
 
 ghost use Rattle.std.specs.Prelude.{◌≡◌, ◌≢◌, ◌↔◌, ◌+◌, [], ◌∷◌, map, false, IsTrue, None, IfOk, OnOk, Contains};
 ghost use Rattle.std.specs.String.{string_bytes};
-ghost use Rattle.gw_answers.specs.Status.{ended, refused as refused_status, wrong_words, failed, no_memory};
+ghost use Rattle.gw_answers.specs.Status.{end_status, refusal_status, wrong_words, failure_status, no_memory};
 ghost use Rattle.gw_answers.specs.Requests as requests;
 ghost use Rattle.gw_answers.specs.Answer.{IsAnswer, IsCheck};
 ghost use Rattle.gw_answers.specs.Assembly.{IsAssembly};
@@ -12,7 +12,7 @@ ghost use Rattle.gw_batch.specs.Parts.{IsPool};
 ghost use Rattle.gpssw.specs.Words.{command_in};
 ghost use Rattle.gw_console.specs.Output.{IsAnswerTo, Responds, Delivers};
 ghost use Rattle.gw_console.specs.Calls.{LosesFront, LosesAtMost, TellsReads, TellsCalls};
-ghost use Rattle.gpssw.specs.Output.{answering, RespondsToBatch, RespondsToWords};
+ghost use Rattle.gpssw.specs.Output.{command_answering, RespondsToBatch, RespondsToWords};
 ghost use Rattle.gpssw.specs.Calls.{TellsCallsOf, TellsPoolCalls, tells_calls};
 
 use crate::framing::read_batch;
@@ -37,7 +37,7 @@ fn read_and_answer<R: Read>(
     reader: &mut Input<R>,
 ) -> Result<Answer, ProgramFault>
     requires { reader.old.failed ≡ false }
-    ensures answer { IfOk result (IsAnswerTo (requests.answering request) reader.old.left) }
+    ensures answer { IfOk result (IsAnswerTo (requests.answers_to request) reader.old.left) }
     ensures told { TellsReads result reader.old.failed reader.new.failed }
     ensures whole { OnOk result (LosesFront (MOST_BYTES + 1) reader.old.left reader.new.left) }
     ensures limited { LosesAtMost (MOST_BYTES + 1) reader.old.left reader.new.left }
@@ -57,7 +57,7 @@ fn respond<R: Read, W: Write>(
 ) -> u8
     requires reader { reader.old.failed ≡ false }
     requires writer { writer.old.failed ≡ false }
-    ensures written { Delivers (requests.answering request)
+    ensures written { Delivers (requests.answers_to request)
         reader.old.left result writer.old.held writer.new.held }
     ensures calls { TellsCalls result reader.old reader.new writer.old writer.new }
 {
@@ -117,8 +117,8 @@ fn run_batch<W: Write, T: Threads + Wait + Sync + Eprint + Clock>(
     requires { writer.old.failed ≡ false }
     ensures bytes { RespondsToBatch
         (map entry_of entries.items) result writer.old.held writer.new.held }
-    ensures told { (result ≡ failed) ↔ IsTrue writer.new.failed }
-    ensures flushed { result ≢ failed → writer.new.waits ≡ false }
+    ensures told { (result ≡ failure_status) ↔ IsTrue writer.new.failed }
+    ensures flushed { result ≢ failure_status → writer.new.waits ≡ false }
 {
     match answer_batch(rt, alloc, shift, entries, writer) {
         Ok(status) => status,
@@ -177,8 +177,8 @@ fn perform<R: Read, W: Write, T: Threads + Wait + Sync + Eprint + Clock>(
 ) -> u8
     requires reader { reader.old.failed ≡ false }
     requires writer { writer.old.failed ≡ false }
-    ensures done { Responds (answering command) reader.old.left result writer.old.held writer.new.held }
-    ensures statuses { Contains (ended ∷ refused_status ∷ failed ∷ no_memory ∷ []) result }
+    ensures done { Responds (command_answering command) reader.old.left result writer.old.held writer.new.held }
+    ensures statuses { Contains (end_status ∷ refusal_status ∷ failure_status ∷ no_memory ∷ []) result }
     ensures calls { tells_calls command result reader.old reader.new writer.old writer.new }
 {
     match command {

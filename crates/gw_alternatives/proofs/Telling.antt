@@ -3,7 +3,7 @@ use Rattle.std.proofs.Common.{◌≡◌, ℕ, List, ◌∙◌, Result, Ok, Err, 
 use Rattle.std.proofs.lemmas.List.{append_assoc}
 use Rattle.std.specs.Prelude.{◌++◌, codes, IfOk, OnOk, MatchResult, Vec}
 use Rattle.std.specs.Global.{Global}
-use Rattle.gw_answers.specs.Status.{refused}
+use Rattle.gw_answers.specs.Status.{refusal_status}
 use Rattle.gw_answers.specs.declared.answer.Answer.{Answer}
 use Rattle.gw_comparison.specs.declared.point.Point.{Point}
 use Rattle.gw_figures.specs.Labels.{labels}
@@ -18,7 +18,7 @@ use Rattle.gw_alternatives.specs.Told.{AddsTableIn, head_line, IsAnswerAbout, Is
 
 pub told_or : {E : Type 0} (Are : List Alternative → Type 0) (form : Form) (request : StudyRequest) (found : Result (Vec Alternative Global) NoAlternative) (a : Result Answer E)
     → IfOk found (λ all. Are all.items)
-    → MatchResult found (λ all. IfOk a (λ a. IsAnswerAbout form request all.items a.text.items a.status)) (λ none. IfOk a (λ a. a.status ≡ refused))
+    → MatchResult found (λ all. IfOk a (λ a. IsAnswerAbout form request all.items a.text.items a.status)) (λ none. IfOk a (λ a. a.status ≡ refusal_status))
     → IfOk a (λ a. IsToldOr Are form request a.text.items a.status)
 told_or Are form request (Ok all) (Ok a) are h = inl (all.items, are, h)
 told_or Are form request (Ok all) (Err e) are h = tt

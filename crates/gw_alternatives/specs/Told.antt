@@ -3,7 +3,7 @@ use Rattle.std.specs.Prelude.{◌≡◌, ◌⊎◌, ℕ, ◌+◌, List, [], ◌�
 use Rattle.std.specs.Global.{Global}
 use Rattle.gw_step.specs.declared.ends.End.TheVariants.{Done}
 use Rattle.gw_answers.specs.Requests.{AnswersAs}
-use Rattle.gw_answers.specs.Status.{ended, refused}
+use Rattle.gw_answers.specs.Status.{end_status, refusal_status}
 use Rattle.gw_answers.specs.declared.answer.Answer.{Answer}
 use Rattle.gw_figures.specs.Labels.{Label, labels}
 use Rattle.gw_figures.specs.declared.figure.Figure.{Figure}
@@ -136,19 +136,19 @@ pub record AreTold (form : Form) (request : StudyRequest) (alternatives : List A
 -- what answers about alternatives: they are told, or what is asked for is refused
 abbrev pub IsAnswerAbout : Form → StudyRequest → List Alternative → List ℕ → ℕ → Type 0
 IsAnswerAbout form request alternatives text status =
-    ((status ≡ ended) × AreTold form request alternatives text) ⊎ (status ≡ refused)
+    ((status ≡ end_status) × AreTold form request alternatives text) ⊎ (status ≡ refusal_status)
 
 -- what answers about alternatives, or why there are none
 abbrev pub AnswersAbout : {E : Type 0} → Result (Vec Alternative Global) NoAlternative → Form → StudyRequest → Result Answer E → Type 0
 AnswersAbout found form request result =
     MatchResult found (λ all. AnswersAs result (IsAnswerAbout form request all.items))
-    (λ none. IfOk result (λ a. a.status ≡ refused))
+    (λ none. IfOk result (λ a. a.status ≡ refusal_status))
 
 -- the same where these are alternatives of a kind, or there are none
 abbrev pub IsToldOr : (List Alternative → Type 0) → Form → StudyRequest → List ℕ → ℕ → Type 0
 IsToldOr Are form request text status =
     ((alternatives : List Alternative) × Are alternatives × IsAnswerAbout form request alternatives text status)
-    ⊎ (status ≡ refused)
+    ⊎ (status ≡ refusal_status)
 
 -- what is told of a model with the numbers that words give
 abbrev pub IsStudyOfPoints : List ℕ → List (List ℕ) → Form → StudyRequest → List ℕ → ℕ → Type 0

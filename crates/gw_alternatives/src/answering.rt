@@ -2,7 +2,7 @@
 
 ghost use Rattle.std.specs.Prelude.{◌≡◌, map};
 ghost use Rattle.gw_answers.specs.Requests.{AnswersAs};
-ghost use Rattle.gw_answers.specs.Status.{refused as refused_status};
+ghost use Rattle.gw_answers.specs.Status.{refusal_status};
 ghost use Rattle.gw_alternatives.specs.Told.{AnswersAbout, IsAnswerAbout, IsComparison, IsStudyOfPoints};
 ghost use Rattle.gw_study.specs.Requests.{MayBeStudied};
 
@@ -33,7 +33,7 @@ fn refusal_of_form(
 
 /// The answer that something is refused, with this text.
 fn refusal(text: Vec<u8>) -> Answer
-    ensures { (result.text ≡ text) × (result.status ≡ refused_status) }
+    ensures { (result.text ≡ text) × (result.status ≡ refusal_status) }
 {
     Answer {
         text,

@@ -4,7 +4,7 @@ use Rattle.gw_object.specs.declared.fault.Fault.{Fault}
 use Rattle.gw_step.specs.State.{State}
 use Rattle.gw_step.specs.Job.{Job, Progress, start_of}
 use Rattle.gw_report.specs.Report.{report_of}
-use Rattle.gw_answers.specs.Status.{refused}
+use Rattle.gw_answers.specs.Status.{refusal_status}
 use Rattle.gw_answers.specs.Refusal.{refusal_line}
 use Rattle.gw_answers.specs.Answer.{Concludes, job_of}
 use Rattle.gw_report.specs.Report.{Ends}
@@ -23,8 +23,8 @@ one_conclusion : (j : Job) (text other : List ℕ) (status otherwise : ℕ) → 
 one_conclusion j text other status otherwise h k = (one_end j text other h.1 k.1, h.0 ∙ sym k.0)
 
 by_job : (r : Result Job Fault) (text other : List ℕ) (status otherwise : ℕ)
-    → MatchResult r (λ j. Concludes j text status) (λ fault. (status ≡ refused) × (text ≡ refusal_line fault))
-    → MatchResult r (λ j. Concludes j other otherwise) (λ fault. (otherwise ≡ refused) × (other ≡ refusal_line fault))
+    → MatchResult r (λ j. Concludes j text status) (λ fault. (status ≡ refusal_status) × (text ≡ refusal_line fault))
+    → MatchResult r (λ j. Concludes j other otherwise) (λ fault. (otherwise ≡ refusal_status) × (other ≡ refusal_line fault))
     → (text ≡ other) × (status ≡ otherwise)
 by_job (Ok j) text other status otherwise h k = one_conclusion j text other status otherwise h k
 by_job (Err fault) text other status otherwise h k = (h.1 ∙ sym k.1, h.0 ∙ sym k.0)

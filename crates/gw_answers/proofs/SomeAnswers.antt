@@ -8,9 +8,9 @@ use Rattle.gw_rules.specs.Accepted.{Checked, fault_of}
 use Rattle.gw_rules.proofs.AllPass.{is_checked}
 use Rattle.gw_scan.specs.Making.{spec_fault, job_from}
 use Rattle.gw_step.specs.Job.{Job}
-use Rattle.gw_answers.specs.Status.{refused, run_budget}
+use Rattle.gw_answers.specs.Status.{refusal_status, run_budget}
 use Rattle.gw_answers.specs.Refusal.{refusal_line, start_refusal}
-use Rattle.gw_answers.specs.Answer.{◌>>=◌, Concludes, job_of, unless, verified, job_made, seeds_given}
+use Rattle.gw_answers.specs.Answer.{◌>>=◌, Concludes, job_of, unless, verdict_of, job_made, seeds_given}
 use Rattle.gw_answers.specs.Laws.{SomeAnswer}
 use Rattle.gw_answers.proofs.Conclusions.{job_concludes}
 
@@ -33,7 +33,7 @@ may_run_of : (seed count : ℕ) (o : Option Fault) (p : Parts) (j : Job) → fau
 may_run_of seed count None p j is h = made_of seed count p j (is_checked p is) h
 may_run_of seed count (Some fault) p j is h = absurd cc
 
-may_run_read : (seed count : ℕ) (r : Result Parts Fault) (j : Job) → (r >>= verified >>= job_made seed count) ≡ Ok j → MayRun j
+may_run_read : (seed count : ℕ) (r : Result Parts Fault) (j : Job) → (r >>= verdict_of >>= job_made seed count) ≡ Ok j → MayRun j
 may_run_read seed count (Ok p) j h = may_run_of seed count (fault_of p) p j refl h
 may_run_read seed count (Err fault) j h = absurd cc
 
@@ -42,11 +42,11 @@ unfolding job_of
 may_run seed count bytes j h = may_run_read seed count (first_fault bytes) j h
 
 abbrev Answered : Result Job Fault → Type 0
-Answered r = (text : List ℕ) × (status : ℕ) × MatchResult r (λ j. Concludes j text status) (λ fault. (status ≡ refused) × (text ≡ refusal_line fault))
+Answered r = (text : List ℕ) × (status : ℕ) × MatchResult r (λ j. Concludes j text status) (λ fault. (status ≡ refusal_status) × (text ≡ refusal_line fault))
 
 by_job : (r : Result Job Fault) → ((j : Job) → r ≡ Ok j → MayRun j) → Answered r
 by_job (Ok j) may = let runs = may j refl in job_concludes j runs.checked (omega (arith, runs.budget))
-by_job (Err fault) may = (refusal_line fault, refused, (refl, refl))
+by_job (Err fault) may = (refusal_line fault, refusal_status, (refl, refl))
 
 pub some_answer : SomeAnswer
 some_answer seed count bytes = by_job (job_of seed count bytes) (λ j h. may_run seed count bytes j h)

@@ -10,7 +10,7 @@ use Rattle.gw_text.specs.Reading.{StandOn, IsRefusedAt}
 use Rattle.gw_text.specs.declared.model.Statement.{Statement}
 use Rattle.gw_assemble.specs.Assembly.{Assembles, IsRefusal}
 use Rattle.gw_assemble.specs.Completion.{IsAccepted}
-use Rattle.gw_answers.specs.Status.{ended, refused}
+use Rattle.gw_answers.specs.Status.{end_status, refusal_status}
 use Rattle.gw_answers.specs.Refusal.{refusal_line}
 
 -- statements that a text of these bytes has
@@ -37,11 +37,11 @@ pub record IsSpelling (statements : List Statement) (text : List ℕ) : Type 0 w
 -- what statements come to: the spelling of the object, or the line of the assembler's refusal
 abbrev pub IsWorkOf : List Statement → List ℕ → ℕ → Type 0
 IsWorkOf statements text status =
-    ((status ≡ ended) × IsSpelling statements text)
-    ⊎ ((status ≡ refused) × ((fault : Fault) × IsRefusal statements fault × IsPrinted fault × (text ≡ refusal_line fault)))
+    ((status ≡ end_status) × IsSpelling statements text)
+    ⊎ ((status ≡ refusal_status) × ((fault : Fault) × IsRefusal statements fault × IsPrinted fault × (text ≡ refusal_line fault)))
 
 -- the text and the status for these bytes where they are assembled: those of a model that reading them may answer, or the line of the text's refusal
 abbrev pub IsAssembly : List ℕ → List ℕ → ℕ → Type 0
 IsAssembly bytes text status =
     ((statements : List Statement) × HasStatements bytes statements × IsWorkOf statements text status)
-    ⊎ ((status ≡ refused) × ((fault : Fault) × IsRefusedText bytes fault × IsPrinted fault × (text ≡ refusal_line fault)))
+    ⊎ ((status ≡ refusal_status) × ((fault : Fault) × IsRefusedText bytes fault × IsPrinted fault × (text ≡ refusal_line fault)))

@@ -15,7 +15,7 @@ abbrev pub AnswersAs : {E : Type 0} → Result Answer E → (List ℕ → ℕ �
 AnswersAs result Says = IfOk result (λ a. Says a.text.items a.status)
 
 -- what answers a request
-abbrev pub answering : Request → Answering
-answering (Run seed count) = IsAnswer seed count
-answering Check = IsCheck
-answering Asm = IsAssembly
+abbrev pub answers_to : Request → Answering
+answers_to (Run seed count) = IsAnswer seed count
+answers_to Check = IsCheck
+answers_to Asm = IsAssembly

@@ -2,20 +2,20 @@
 use Rattle.std.specs.Prelude.{ℕ}
 
 -- an accepted job came to a named end
-abbrev pub ended : ℕ
-ended = 0
+abbrev pub end_status : ℕ
+end_status = 0
 
 -- the object or the job was refused
-abbrev pub refused : ℕ
-refused = 1
+abbrev pub refusal_status : ℕ
+refusal_status = 1
 
 -- the words are not those of a command
 abbrev pub wrong_words : ℕ
 wrong_words = 2
 
 -- a read or a write failed
-abbrev pub failed : ℕ
-failed = 3
+abbrev pub failure_status : ℕ
+failure_status = 3
 
 -- memory ran out
 abbrev pub no_memory : ℕ

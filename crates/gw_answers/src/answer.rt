@@ -3,12 +3,12 @@
 ghost use Rattle.std.specs.Prelude.{◌≡◌, OnOk, IfOk, Some};
 ghost use Rattle.gw_step.specs.Job.{Alone, IsFinal};
 ghost use Rattle.gw_object.specs.Grammar.{spelling};
-ghost use Rattle.gw_answers.specs.Status.{ended as ended_status, refused as refused_status};
+ghost use Rattle.gw_answers.specs.Status.{end_status as ended_status, refusal_status};
 ghost use Rattle.gw_answers.specs.Refusal.{refusal_line};
 ghost use Rattle.gw_object.specs.Reading.{first_fault};
-ghost use Rattle.gw_answers.specs.Answer.{verified, job_made, job_of, object_of, accepted_line, Concludes, IsAnswer, IsCheck};
+ghost use Rattle.gw_answers.specs.Answer.{verdict_of, job_made, job_of, object_of, accepted_line, Concludes, IsAnswer, IsCheck};
 ghost use Rattle.gw_answers.specs.Assembly.{IsAssembly, IsPrinted, IsWorkOf};
-ghost use Rattle.gw_answers.specs.Requests.{answering};
+ghost use Rattle.gw_answers.specs.Requests.{answers_to};
 ghost use Rattle.gw_answers.specs.Finding.{FindsJob};
 
 use crate::request::Request;
@@ -86,7 +86,7 @@ fn answer_of_job(alloc: Global, spec: Spec) -> Result<Answer, Memory>
 
 /// The line of a refusal.
 pub fn refused(alloc: Global, refusal: Refusal) -> Result<Answer, Memory>
-    ensures { IfOk result (λ a. (a.text.items ≡ refusal_line refusal.0) × (a.status ≡ refused_status)) }
+    ensures { IfOk result (λ a. (a.text.items ≡ refusal_line refusal.0) × (a.status ≡ refusal_status)) }
 {
     let line = format!(in alloc; "{refusal}\n")?;
     Ok(Answer {
@@ -117,7 +117,7 @@ fn object_in(alloc: Global, input: &[u8]) -> Result<Object, NoJob>
 
 /// Accepts an object, or refuses it.
 fn verified_object(alloc: Global, object: Object) -> Result<Verified, NoJob>
-    ensures { FindsJob result (verified object) }
+    ensures { FindsJob result (verdict_of object) }
 {
     match verify(alloc, object) {
         Ok(verified) => Ok(verified),
@@ -216,7 +216,7 @@ fn check_of(alloc: Global, input: &[u8]) -> Result<Answer, Memory>
 
 /// The line of a refusal of a model text, or of its assembly; or that memory ran out.
 fn refused_text(alloc: Global, fault: Fault) -> Result<Answer, Memory>
-    ensures line { IfOk result (λ a. (a.status ≡ refused_status) × (a.text.items ≡ refusal_line fault)) }
+    ensures line { IfOk result (λ a. (a.status ≡ refusal_status) × (a.text.items ≡ refusal_line fault)) }
     ensures printed { OnOk result (IsPrinted fault) }
 {
     match fault.code {
@@ -265,7 +265,7 @@ fn assembly_of(alloc: Global, input: &[u8]) -> Result<Answer, Memory>
 
 /// The text that is to be written for a request and these bytes, and the status.
 pub fn answer_to(alloc: Global, request: Request, input: &[u8]) -> Result<Answer, Memory>
-    ensures { IfOk result (λ a. answering request input.now a.text.items a.status) }
+    ensures { IfOk result (λ a. answers_to request input.now a.text.items a.status) }
 {
     match request {
         Request::Asm => assembly_of(alloc, input),

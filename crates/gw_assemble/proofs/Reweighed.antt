@@ -12,7 +12,7 @@ use Rattle.gw_code.specs.declared.parts.Instruction.TheVariants as instructions
 use Rattle.gw_code.specs.declared.parts.Procedure.{Procedure}
 use Rattle.gw_object.specs.declared.parts.Parts.{Parts}
 use Rattle.gw_operands.specs.Code.{cost_of_code, takes, asks_for, asked_by_source, parameters_asked}
-use Rattle.gw_operands.specs.Sources.{evaluated}
+use Rattle.gw_operands.specs.Sources.{evaluation_operands}
 use Rattle.gw_rules.specs.Checks.{Check, first_broken}
 use Rattle.gw_rules.specs.Pass.{kinds_checks, KindsPass}
 use Rattle.gw_rules.specs.PlusChecks.{Heights, heights_after, instruction_checks, code_checks, whole_checks, checks_from, plus_checks, PlusPasses}
@@ -81,7 +81,7 @@ module _ (p : Parts) (version : ℕ) (weights : List ℕ) (slopes : List (Option
   own_same block row = refl
 
   rules_same : (block : Block) (row : Row) → rules q block row ≡ rules p block row
-  rules_same block row = rw (flat_same (evaluated p.entities block), own_same block row) refl
+  rules_same block row = rw (flat_same (evaluation_operands p.entities block), own_same block row) refl
 
   flow_from : (table : Table) → FlowHolds q table → FlowHolds p table
   flow_from table h = record {

@@ -14,7 +14,7 @@ use Rattle.gw_object.specs.declared.parts.Kind.{Kind}
 use Rattle.gw_object.specs.declared.parts.Parts.{Parts}
 use Rattle.gw_operands.specs.Code.{procedure_at, costs_of}
 use Rattle.gw_operands.specs.Environment.{Environment}
-use Rattle.gw_operands.specs.Meaning.{Frame, Next, Goes, Calls, given, pushed, opening, act, next}
+use Rattle.gw_operands.specs.Meaning.{Frame, Next, Goes, Calls, or_stuck, push_value, opening_frame, act, next}
 use Rattle.gw_operands.specs.Outcome.{Answer, if_going, once_called, answer_by, answer_within, outcome_of}
 use Rattle.gw_operands.specs.Results.{value_by_operand}
 use Rattle.gw_operands.specs.Sources.{source_of, as_operand}
@@ -39,13 +39,13 @@ module _ (onward other : ℕ → Frame → Answer) (same : (n : ℕ) (f : Frame)
   called_same : (n : ℕ) (finish : ℤ → ℤ) (rest : Frame) (r : Answer) → option_and_then (once_called (onward n) finish rest) r ≡ option_and_then (once_called (other n) finish rest) r
   called_same n finish rest None = refl
   called_same n finish rest (Some (Err e)) = refl
-  called_same n finish rest (Some (Ok v)) = going_same n (pushed (finish v) rest)
+  called_same n finish rest (Some (Ok v)) = going_same n (push_value (finish v) rest)
 
   by_same : (p : Parts) (n : ℕ) (x : Next) → answer_by p onward n x ≡ answer_by p other n x
   by_same p n (Goes f) = same n f
   by_same p n (Calls c arguments finish rest) =
-      ap (option_and_then (once_called (onward n) finish rest)) (same c (opening (procedure_at p c) arguments))
-      ∙ called_same n finish rest (other c (opening (procedure_at p c) arguments))
+      ap (option_and_then (once_called (onward n) finish rest)) (same c (opening_frame (procedure_at p c) arguments))
+      ∙ called_same n finish rest (other c (opening_frame (procedure_at p c) arguments))
   by_same p n x = refl
 
 then_same : {A B : Type 0} (c : Came A) (f g : A → Came B) → ((v : A) → f v ≡ g v) → with_value c f ≡ with_value c g
@@ -69,11 +69,11 @@ module _ (p : Parts) (version : ℕ) (weights : List ℕ) (slopes : List (Option
   act_same env (instructions.Call n) f = refl
   act_same env i f = refl
 
-  instruction_same : (env : Environment) (f : Frame) (o : Option Instruction) → given o (λ i. act q env i f) ≡ given o (λ i. act p env i f)
+  instruction_same : (env : Environment) (f : Frame) (o : Option Instruction) → or_stuck o (λ i. act q env i f) ≡ or_stuck o (λ i. act p env i f)
   instruction_same env f None = refl
   instruction_same env f (Some i) = act_same env i f
 
-  procedure_same : (env : Environment) (f : Frame) (o : Option Procedure) → given o (λ pr. given (slice_get pr.code f.place) (λ i. act q env i f)) ≡ given o (λ pr. given (slice_get pr.code f.place) (λ i. act p env i f))
+  procedure_same : (env : Environment) (f : Frame) (o : Option Procedure) → or_stuck o (λ pr. or_stuck (slice_get pr.code f.place) (λ i. act q env i f)) ≡ or_stuck o (λ pr. or_stuck (slice_get pr.code f.place) (λ i. act p env i f))
   procedure_same env f None = refl
   procedure_same env f (Some pr) = instruction_same env f (slice_get pr.code f.place)
 
@@ -95,11 +95,11 @@ module _ (p : Parts) (version : ℕ) (weights : List ℕ) (slopes : List (Option
 
   outcome_same : (env : Environment) (n : ℕ) → outcome_of q env n ≡ outcome_of p env n
   unfolding outcome_of
-  outcome_same env n = within_same env (at 0 (costs_of p) n) n (opening (procedure_at p n) [])
+  outcome_same env n = within_same env (at 0 (costs_of p) n) n (opening_frame (procedure_at p n) [])
 
   with_same : (env : Environment) (n : ℕ) (arguments : List ℤ) → outcome_with q env n arguments ≡ outcome_with p env n arguments
   unfolding outcome_with
-  with_same env n arguments = within_same env (at 0 (costs_of p) n) n (opening (procedure_at p n) arguments)
+  with_same env n arguments = within_same env (at 0 (costs_of p) n) n (opening_frame (procedure_at p n) arguments)
 
   -- EXPRESSIONS
 

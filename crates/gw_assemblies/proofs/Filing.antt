@@ -7,25 +7,25 @@ use Rattle.std.specs.List.{find, position, position_or_len}
 use Rattle.gw_num.specs.Table.{at}
 use Rattle.gw_assemblies.specs.Assembling.{is_of}
 use Rattle.gw_members.specs.Firsts.{without_first, with_first_changed}
-use Rattle.gw_assemblies.specs.Register.{bucket_of, standing, is_entry_of, bucket_at, older_at, IsNewest, AreFiled}
+use Rattle.gw_assemblies.specs.Register.{bucket_of, assemblies_of, is_entry_of, bucket_at, older_at, IsNewest, AreFiled}
 use Rattle.gw_assemblies.specs.declared.assemblies.Assembly.{Assembly}
 use Rattle.gw_assemblies.specs.declared.register.Entry.{Entry}
 use Rattle.gw_assemblies.proofs.Finding.{is_within, found, changed, missed}
 
 -- what is left where those struck out are left out
-pub standing_filter : (es : List Entry) → standing (filter (λ e. e.stands) es) ≡ standing es
+pub standing_filter : (es : List Entry) → assemblies_of (filter (λ e. e.stands) es) ≡ assemblies_of es
 standing_filter [] = refl
 standing_filter (e ∷ es) = by_test e.stands refl (standing_filter es)
   where
-    by_test : (b : Bool) → e.stands ≡ b → standing (filter (λ e. e.stands) es) ≡ standing es → standing (cond b (e ∷ filter (λ e. e.stands) es) (filter (λ e. e.stands) es)) ≡ cond b (e.assembly ∷ standing es) (standing es)
+    by_test : (b : Bool) → e.stands ≡ b → assemblies_of (filter (λ e. e.stands) es) ≡ assemblies_of es → assemblies_of (cond b (e ∷ filter (λ e. e.stands) es) (filter (λ e. e.stands) es)) ≡ cond b (e.assembly ∷ assemblies_of es) (assemblies_of es)
     by_test true is rest = rw is (ap (λ xs. e.assembly ∷ xs) rest)
     by_test false is rest = rest
 
-pub length_filter : (es : List Entry) → length (filter (λ e. e.stands) es) ≡ length (standing es)
+pub length_filter : (es : List Entry) → length (filter (λ e. e.stands) es) ≡ length (assemblies_of es)
 length_filter [] = refl
 length_filter (e ∷ es) = by_test e.stands (length_filter es)
   where
-    by_test : (b : Bool) → length (filter (λ e. e.stands) es) ≡ length (standing es) → length (cond b (e ∷ filter (λ e. e.stands) es) (filter (λ e. e.stands) es)) ≡ length (cond b (e.assembly ∷ standing es) (standing es))
+    by_test : (b : Bool) → length (filter (λ e. e.stands) es) ≡ length (assemblies_of es) → length (cond b (e ∷ filter (λ e. e.stands) es) (filter (λ e. e.stands) es)) ≡ length (cond b (e.assembly ∷ assemblies_of es) (assemblies_of es))
     by_test true rest = ap suc rest
     by_test false rest = rest
 
@@ -78,7 +78,7 @@ older_at-other (x ∷ xs) (suc k) zero w before = refl
 older_at-other (x ∷ xs) (suc k) (suc j) w before = older_at-other xs k j w (omega arith)
 
 -- a place written with an entry of the same assembly that stands as before
-pub standing-set : (es : List Entry) (k : ℕ) (e w : Entry) → k < length es → e ≡ get_or es k e → w.assembly ≡ e.assembly → w.stands ≡ e.stands → standing (set es k w) ≡ standing es
+pub standing-set : (es : List Entry) (k : ℕ) (e w : Entry) → k < length es → e ≡ get_or es k e → w.assembly ≡ e.assembly → w.stands ≡ e.stands → assemblies_of (set es k w) ≡ assemblies_of es
 standing-set [] k e w within is same stands = absurd (omega arith)
 standing-set (x ∷ xs) zero e w within is same stands = rw (same, stands, is) refl
 standing-set (x ∷ xs) (suc k) e w within is same stands = ap (λ rest. if x.stands then x.assembly ∷ rest else rest) (standing-set xs k e w (omega arith) is same stands)
@@ -239,11 +239,11 @@ filed-front es more bs filed =
           (newest-alike (bucket_at (length bs) es) (bucket_at (length bs) es k) k (bucket_at (length bs) (es ++ more)) (λ j under. same j (omega (arith, under, low))) (older_at es k) (filed.older k low)));
     }
 
-pub standing-append : (es fs : List Entry) → standing (es ++ fs) ≡ standing es ++ standing fs
+pub standing-append : (es fs : List Entry) → assemblies_of (es ++ fs) ≡ assemblies_of es ++ assemblies_of fs
 standing-append [] fs = refl
 standing-append (e ∷ es) fs = by_test e.stands (standing-append es fs)
   where
-    by_test : (b : Bool) → standing (es ++ fs) ≡ standing es ++ standing fs → (cond b (e.assembly ∷ standing (es ++ fs)) (standing (es ++ fs))) ≡ (cond b (e.assembly ∷ standing es) (standing es)) ++ standing fs
+    by_test : (b : Bool) → assemblies_of (es ++ fs) ≡ assemblies_of es ++ assemblies_of fs → (cond b (e.assembly ∷ assemblies_of (es ++ fs)) (assemblies_of (es ++ fs))) ≡ (cond b (e.assembly ∷ assemblies_of es) (assemblies_of es)) ++ assemblies_of fs
     by_test true rest = ap (λ xs. e.assembly ∷ xs) rest
     by_test false rest = rest
 
@@ -392,32 +392,32 @@ module _ (q : Entry → Bool) where
 
 -- the first entry of a set at a block is the first of its assemblies that stands
 module _ (block set : ℕ) where
-  pub find-standing : (es : List Entry) → find (is_of block set) (standing es) ≡ option_map (λ (e : Entry). e.assembly) (find (is_entry_of block set) es)
+  pub find-standing : (es : List Entry) → find (is_of block set) (assemblies_of es) ≡ option_map (λ (e : Entry). e.assembly) (find (is_entry_of block set) es)
   find-standing [] = refl
   find-standing (e ∷ es) = by_test e.stands (is_of block set e.assembly) refl (find-standing es)
     where
-      by_test : (t u : Bool) → is_of block set e.assembly ≡ u → find (is_of block set) (standing es) ≡ option_map (λ (x : Entry). x.assembly) (find (is_entry_of block set) es)
-          → find (is_of block set) (cond t (e.assembly ∷ standing es) (standing es)) ≡ option_map (λ (x : Entry). x.assembly) (cond (t && u) (Some e) (find (is_entry_of block set) es))
+      by_test : (t u : Bool) → is_of block set e.assembly ≡ u → find (is_of block set) (assemblies_of es) ≡ option_map (λ (x : Entry). x.assembly) (find (is_entry_of block set) es)
+          → find (is_of block set) (cond t (e.assembly ∷ assemblies_of es) (assemblies_of es)) ≡ option_map (λ (x : Entry). x.assembly) (cond (t && u) (Some e) (find (is_entry_of block set) es))
       by_test true true is rest = rw is refl
       by_test true false is rest = rw is rest
       by_test false u is rest = rest
 
-  pub standing-changed : (change : Assembly → Assembly) (es : List Entry) → standing (with_first_changed (is_entry_of block set) (λ e. record e { assembly = change e.assembly }) es) ≡ with_first_changed (is_of block set) change (standing es)
+  pub standing-changed : (change : Assembly → Assembly) (es : List Entry) → assemblies_of (with_first_changed (is_entry_of block set) (λ e. record e { assembly = change e.assembly }) es) ≡ with_first_changed (is_of block set) change (assemblies_of es)
   standing-changed change [] = refl
   standing-changed change (e ∷ es) = by_test e.stands (is_of block set e.assembly) refl refl (standing-changed change es)
     where
-      by_test : (t u : Bool) → e.stands ≡ t → is_of block set e.assembly ≡ u → standing (with_first_changed (is_entry_of block set) (λ (x : Entry). record x { assembly = change x.assembly }) es) ≡ with_first_changed (is_of block set) change (standing es)
-          → standing (cond (t && u) (record e { assembly = change e.assembly } ∷ es) (e ∷ with_first_changed (is_entry_of block set) (λ (x : Entry). record x { assembly = change x.assembly }) es)) ≡ with_first_changed (is_of block set) change (cond t (e.assembly ∷ standing es) (standing es))
+      by_test : (t u : Bool) → e.stands ≡ t → is_of block set e.assembly ≡ u → assemblies_of (with_first_changed (is_entry_of block set) (λ (x : Entry). record x { assembly = change x.assembly }) es) ≡ with_first_changed (is_of block set) change (assemblies_of es)
+          → assemblies_of (cond (t && u) (record e { assembly = change e.assembly } ∷ es) (e ∷ with_first_changed (is_entry_of block set) (λ (x : Entry). record x { assembly = change x.assembly }) es)) ≡ with_first_changed (is_of block set) change (cond t (e.assembly ∷ assemblies_of es) (assemblies_of es))
       by_test true true stands is rest = rw (stands, is) refl
       by_test true false stands is rest = rw (stands, is) (ap (λ xs. e.assembly ∷ xs) rest)
       by_test false u stands is rest = rw stands rest
 
-  pub standing-struck : (es : List Entry) → standing (with_first_changed (is_entry_of block set) (λ e. record e { stands = false }) es) ≡ without_first (is_of block set) (standing es)
+  pub standing-struck : (es : List Entry) → assemblies_of (with_first_changed (is_entry_of block set) (λ e. record e { stands = false }) es) ≡ without_first (is_of block set) (assemblies_of es)
   standing-struck [] = refl
   standing-struck (e ∷ es) = by_test e.stands (is_of block set e.assembly) refl refl (standing-struck es)
     where
-      by_test : (t u : Bool) → e.stands ≡ t → is_of block set e.assembly ≡ u → standing (with_first_changed (is_entry_of block set) (λ (x : Entry). record x { stands = false }) es) ≡ without_first (is_of block set) (standing es)
-          → standing (cond (t && u) (record e { stands = false } ∷ es) (e ∷ with_first_changed (is_entry_of block set) (λ (x : Entry). record x { stands = false }) es)) ≡ without_first (is_of block set) (cond t (e.assembly ∷ standing es) (standing es))
+      by_test : (t u : Bool) → e.stands ≡ t → is_of block set e.assembly ≡ u → assemblies_of (with_first_changed (is_entry_of block set) (λ (x : Entry). record x { stands = false }) es) ≡ without_first (is_of block set) (assemblies_of es)
+          → assemblies_of (cond (t && u) (record e { stands = false } ∷ es) (e ∷ with_first_changed (is_entry_of block set) (λ (x : Entry). record x { stands = false }) es)) ≡ without_first (is_of block set) (cond t (e.assembly ∷ assemblies_of es) (assemblies_of es))
       by_test true true stands is rest = rw is refl
       by_test true false stands is rest = rw (stands, is) (ap (λ xs. e.assembly ∷ xs) rest)
       by_test false u stands is rest = rw stands rest
@@ -468,23 +468,23 @@ module _ (block number : ℕ) (es : List Entry) (i : ℕ) (at : position (is_ent
   spot_is : spot ≡ get_or es i spot
   spot_is = get_or-own es i d spot_within
 
-  pub found-here : find (is_of block number) (standing es) ≡ Some spot.assembly
+  pub found-here : find (is_of block number) (assemblies_of es) ≡ Some spot.assembly
   found-here = find-standing block number es ∙ ap (option_map (λ (e : Entry). e.assembly)) (found (is_entry_of block number) es i at spot spot_is)
 
   pub changed-here : (m : ℕ) → m ≡ spot.assembly.missing - 1
-      → standing (set es i (record spot { assembly = record spot.assembly { missing = m } })) ≡ with_first_changed (is_of block number) (λ a. record a { missing = a.missing - 1 }) (standing es)
+      → assemblies_of (set es i (record spot { assembly = record spot.assembly { missing = m } })) ≡ with_first_changed (is_of block number) (λ a. record a { missing = a.missing - 1 }) (assemblies_of es)
   changed-here m is =
-      ap (λ k. standing (set es i (record spot { assembly = record spot.assembly { missing = k } }))) is
-      ∙ ap standing (changed (is_entry_of block number) es i at (λ e. record e { assembly = record e.assembly { missing = e.assembly.missing - 1 } }) spot spot_is)
+      ap (λ k. assemblies_of (set es i (record spot { assembly = record spot.assembly { missing = k } }))) is
+      ∙ ap assemblies_of (changed (is_entry_of block number) es i at (λ e. record e { assembly = record e.assembly { missing = e.assembly.missing - 1 } }) spot spot_is)
       ∙ standing-changed block number (λ a. record a { missing = a.missing - 1 }) es
 
-  pub struck-here : standing (set es i (record spot { stands = false })) ≡ without_first (is_of block number) (standing es)
-  struck-here = ap standing (changed (is_entry_of block number) es i at (λ e. record e { stands = false }) spot spot_is) ∙ standing-struck block number es
+  pub struck-here : assemblies_of (set es i (record spot { stands = false })) ≡ without_first (is_of block number) (assemblies_of es)
+  struck-here = ap assemblies_of (changed (is_entry_of block number) es i at (λ e. record e { stands = false }) spot spot_is) ∙ standing-struck block number es
 
   pub kept-here : (bs : List (Option ℕ)) → AreFiled es bs (length es) → (w : Entry) → w.assembly.block ≡ spot.assembly.block → w.assembly.set ≡ spot.assembly.set → w.older ≡ spot.older
       → AreFiled (set es i w) bs (length (set es i w))
   kept-here bs filed e block_same set_same older_same = subst (AreFiled (set es i e) bs) (sym (length-set es i e)) (filed-kept es bs (length es) i spot e filed spot_within spot_is block_same set_same older_same)
 
 -- where there is none
-pub found-none : (block set : ℕ) (es : List Entry) → position (is_entry_of block set) es ≡ None → find (is_of block set) (standing es) ≡ None
+pub found-none : (block set : ℕ) (es : List Entry) → position (is_entry_of block set) es ≡ None → find (is_of block set) (assemblies_of es) ≡ None
 found-none block set es at = find-standing block set es ∙ ap (option_map (λ (e : Entry). e.assembly)) (missed (is_entry_of block set) es at)

@@ -15,13 +15,13 @@ abbrev pub bucket_of : ℕ → ℕ → ℕ → ℕ
 bucket_of n block set = spread block set / 2 ^ 20 % n
 
 -- the assemblies of the entries that stand
-abbrev pub standing : List Entry → List Assembly
-standing [] = []
-standing (e ∷ es) = if e.stands then e.assembly ∷ standing es else standing es
+abbrev pub assemblies_of : List Entry → List Assembly
+assemblies_of [] = []
+assemblies_of (e ∷ es) = if e.stands then e.assembly ∷ assemblies_of es else assemblies_of es
 
 -- how many assemblies stand
 abbrev pub assembly_count : List Entry → ℕ
-assembly_count entries = length (standing entries)
+assembly_count entries = length (assemblies_of entries)
 
 -- whether an entry stands, and is that of a set at a block
 abbrev pub is_entry_of : ℕ → ℕ → Entry → Bool

@@ -43,19 +43,19 @@ pub struct Assemblies {
 impl Model for Assemblies {
     ghost use Rattle.std.specs.Prelude.{◌≡◌, ◌≤◌, ◌<◌, ◌-◌, ◌*◌, ◌^◌, length, vec_len, vec_capacity};
     ghost use Rattle.gw_assemblies.specs.Assembling.{Assembling};
-    ghost use Rattle.gw_assemblies.specs.Register.{standing, AreFiled};
+    ghost use Rattle.gw_assemblies.specs.Register.{assemblies_of, AreFiled};
 
     ghost Value = { Assembling };
 
     ghost invariant = { λ a. AreFiled a.entries.items a.buckets.items (length a.entries.items)
-        × (a.waiting ≡ length (standing a.entries.items))
+        × (a.waiting ≡ length (assemblies_of a.entries.items))
         × (a.waiting ≤ a.most)
         × (a.most ≤ 2 ^ 62)
         × (vec_len a.entries ≤ 2 * a.most)
         × (2 * a.most ≤ vec_capacity a.entries)
         × (0 < a.most → 0 < vec_len a.buckets) };
 
-    ghost view = { λ a. record { items = standing a.entries.items; room = a.most - a.waiting } };
+    ghost view = { λ a. record { items = assemblies_of a.entries.items; room = a.most - a.waiting } };
 }
 
 impl Assemblies {

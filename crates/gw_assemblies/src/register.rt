@@ -5,7 +5,7 @@ ghost use Rattle.std.specs.List.{position, find};
 ghost use Rattle.std.specs.Vec.{vec_len, vec_capacity};
 ghost use Rattle.gw_assemblies.specs.Assembling.{is_of, with_one_come};
 ghost use Rattle.gw_members.specs.Firsts.{without_first};
-ghost use Rattle.gw_assemblies.specs.Register.{bucket_of, standing, assembly_count, is_entry_of, AreFiled, StayFiled};
+ghost use Rattle.gw_assemblies.specs.Register.{bucket_of, assemblies_of, assembly_count, is_entry_of, AreFiled, StayFiled};
 
 use crate::Assembly;
 use gw_members::Memory;
@@ -82,7 +82,7 @@ pub(crate) fn file(entries: &mut [Entry], buckets: &mut [Option<usize>], place: 
     requires there { place < length entries.old }
     requires some { 0 < length buckets.old }
     ensures filed { AreFiled entries.new buckets.new (place + 1) }
-    ensures standing { standing entries.new ≡ standing entries.old }
+    ensures standing { assemblies_of entries.new ≡ assemblies_of entries.old }
     ensures len { (length entries.new ≡ length entries.old)
         × (length buckets.new ≡ length buckets.old) }
 {
@@ -107,7 +107,7 @@ fn clear(buckets: &mut [Option<usize>])
 pub(crate) fn file_all(entries: &mut [Entry], buckets: &mut [Option<usize>])
     requires { 0 < length buckets.old }
     ensures filed { AreFiled entries.new buckets.new (length entries.new) }
-    ensures standing { standing entries.new ≡ standing entries.old }
+    ensures standing { assemblies_of entries.new ≡ assemblies_of entries.old }
     ensures len { (length entries.new ≡ length entries.old)
         × (length buckets.new ≡ length buckets.old) }
 {
@@ -119,8 +119,8 @@ pub(crate) fn file_all(entries: &mut [Entry], buckets: &mut [Option<usize>])
 
 /// Leaves out the entries that are struck out.
 pub(crate) fn sweep(entries: &mut Vec<Entry>)
-    ensures standing { standing entries.new.items ≡ standing entries.old.items }
-    ensures len { vec_len entries.new ≡ length (standing entries.old.items) }
+    ensures standing { assemblies_of entries.new.items ≡ assemblies_of entries.old.items }
+    ensures len { vec_len entries.new ≡ length (assemblies_of entries.old.items) }
     ensures fewer { vec_len entries.new ≤ vec_len entries.old }
     ensures capacity { vec_capacity entries.new ≡ vec_capacity entries.old }
 {
@@ -135,9 +135,9 @@ pub(crate) fn sweep(entries: &mut Vec<Entry>)
 pub(crate) fn make_way(entries: &mut Vec<Entry>, buckets: &mut [Option<usize>], places: usize)
     requires filed { AreFiled entries.old.items buckets.old (length entries.old.items) }
     requires some { 0 < length buckets.old }
-    requires few { length (standing entries.old.items) < places }
+    requires few { length (assemblies_of entries.old.items) < places }
     ensures filed { AreFiled entries.new.items buckets.new (length entries.new.items) }
-    ensures standing { standing entries.new.items ≡ standing entries.old.items }
+    ensures standing { assemblies_of entries.new.items ≡ assemblies_of entries.old.items }
     ensures len { vec_len entries.new < places }
     ensures buckets { length buckets.new ≡ length buckets.old }
     ensures capacity { vec_capacity entries.new ≡ vec_capacity entries.old }
@@ -152,7 +152,7 @@ pub(crate) fn make_way(entries: &mut Vec<Entry>, buckets: &mut [Option<usize>], 
 fn append(entries: &mut Vec<Entry>, assembly: Assembly)
     requires { vec_len entries.old < vec_capacity entries.old }
     ensures filed { StayFiled (length entries.old.items) entries.old.items entries.new.items }
-    ensures standing { standing entries.new.items ≡ standing entries.old.items ++ assembly ∷ [] }
+    ensures standing { assemblies_of entries.new.items ≡ assemblies_of entries.old.items ++ assembly ∷ [] }
     ensures len { vec_len entries.new ≡ vec_len entries.old + 1 }
     ensures capacity { vec_capacity entries.new ≡ vec_capacity entries.old }
 {
@@ -169,7 +169,7 @@ pub(crate) fn add(entries: &mut Vec<Entry>, buckets: &mut [Option<usize>], assem
     requires some { 0 < length buckets.old }
     requires room { vec_len entries.old < vec_capacity entries.old }
     ensures filed { AreFiled entries.new.items buckets.new (length entries.new.items) }
-    ensures standing { standing entries.new.items ≡ standing entries.old.items ++ assembly ∷ [] }
+    ensures standing { assemblies_of entries.new.items ≡ assemblies_of entries.old.items ++ assembly ∷ [] }
     ensures len { vec_len entries.new ≡ vec_len entries.old + 1 }
     ensures buckets { length buckets.new ≡ length buckets.old }
     ensures capacity { vec_capacity entries.new ≡ vec_capacity entries.old }
@@ -183,7 +183,7 @@ pub(crate) fn add(entries: &mut Vec<Entry>, buckets: &mut [Option<usize>], assem
 pub(crate) fn find(entries: &[Entry], buckets: &[Option<usize>], key: Key) -> Option<Assembly>
     requires filed { AreFiled entries.now buckets.now (length entries.now) }
     requires some { 0 < length entries.now → 0 < length buckets.now }
-    ensures { result ≡ find (is_of key.block key.set) (standing entries.now) }
+    ensures { result ≡ find (is_of key.block key.set) (assemblies_of entries.now) }
 {
     let place = place_of(entries, buckets, key)?;
     Some(entries[place].assembly)
@@ -193,8 +193,8 @@ pub(crate) fn find(entries: &[Entry], buckets: &[Option<usize>], key: Key) -> Op
 pub(crate) fn count_down(entries: &mut [Entry], buckets: &[Option<usize>], key: Key)
     requires filed { AreFiled entries.old buckets.now (length entries.old) }
     requires some { 0 < length entries.old → 0 < length buckets.now }
-    ensures standing { standing entries.new ≡ with_one_come key.block key.set (standing entries.old) }
-    ensures count { length (standing entries.new) ≡ length (standing entries.old) }
+    ensures standing { assemblies_of entries.new ≡ with_one_come key.block key.set (assemblies_of entries.old) }
+    ensures count { length (assemblies_of entries.new) ≡ length (assemblies_of entries.old) }
     ensures filed { AreFiled entries.new buckets.now (length entries.new) }
     ensures len { length entries.new ≡ length entries.old }
 {
@@ -212,9 +212,9 @@ pub(crate) fn strike_out(
 ) -> Option<Assembly>
     requires filed { AreFiled entries.old buckets.now (length entries.old) }
     requires some { 0 < length entries.old → 0 < length buckets.now }
-    ensures value { result ≡ find (is_of key.block key.set) (standing entries.old) }
-    ensures standing { standing entries.new
-        ≡ without_first (is_of key.block key.set) (standing entries.old) }
+    ensures value { result ≡ find (is_of key.block key.set) (assemblies_of entries.old) }
+    ensures standing { assemblies_of entries.new
+        ≡ without_first (is_of key.block key.set) (assemblies_of entries.old) }
     ensures count { assembly_count entries.new + length (option_to_list result) ≡ assembly_count entries.old }
     ensures filed { AreFiled entries.new buckets.now (length entries.new) }
     ensures len { length entries.new ≡ length entries.old }
@@ -234,7 +234,7 @@ pub(crate) fn reserve(
     requires bound { most ≤ 2 ^ 62 }
     requires filed { AreFiled entries.old.items buckets.old.items (length entries.old.items) }
     ensures filed { AreFiled entries.new.items buckets.new.items (length entries.new.items) }
-    ensures standing { standing entries.new.items ≡ standing entries.old.items }
+    ensures standing { assemblies_of entries.new.items ≡ assemblies_of entries.old.items }
     ensures len { vec_len entries.new ≤ vec_len entries.old }
     ensures kept { vec_capacity entries.old ≤ vec_capacity entries.new }
     ensures buckets { 0 < vec_len buckets.old → 0 < vec_len buckets.new }

@@ -3,7 +3,7 @@ use Rattle.std.specs.Prelude.{ℕ, zero, suc, ◌==◌, nat_lt, List, [], ◌∷
 use Rattle.byteorder.specs.Endian.{big_number}
 use Rattle.gw_object.specs.declared.fault.Fault.{Fault}
 use Rattle.gw_object.specs.declared.limits.TheConstants.{MOST_BYTES}
-use Rattle.gw_object.specs.Codes.{truncated, limit}
+use Rattle.gw_object.specs.Codes.{truncation, limit}
 use Rattle.gw_answers.specs.Service.{service_full, nowhere}
 use Rattle.gw_batch.specs.declared.entry.Entry.{Entry as StoredEntry}
 use Rattle.gw_batch.specs.declared.entry.Entry.TheVariants as stored
@@ -36,15 +36,15 @@ abbrev pub front : Entry → List ℕ → Front
 front e bytes = record { entry = e; behind = bytes }
 
 -- of the bytes behind a length: as many as it says, or what is wrong with it or them
-abbrev pub sized : ℕ → List ℕ → Front
-sized n bytes =
+abbrev pub sized_front : ℕ → List ℕ → Front
+sized_front n bytes =
     if nat_lt MOST_BYTES n then front (Broken (nowhere limit)) bytes
-    else if nat_lt (length bytes) n then front (Broken (nowhere truncated)) []
+    else if nat_lt (length bytes) n then front (Broken (nowhere truncation)) []
     else front (Object (take n bytes)) (drop n bytes)
 
 -- a length is a big-endian number of four bytes
 abbrev pub behind_length : List ℕ → Front
-behind_length bytes = if nat_lt (length bytes) 4 then front (Broken (nowhere truncated)) [] else sized (big_number 4 bytes) (drop 4 bytes)
+behind_length bytes = if nat_lt (length bytes) 4 then front (Broken (nowhere truncation)) [] else sized_front (big_number 4 bytes) (drop 4 bytes)
 
 -- the first entry, unless there are no bytes
 abbrev pub first_entry : List ℕ → Option Front

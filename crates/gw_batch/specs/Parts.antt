@@ -6,7 +6,7 @@ use Rattle.gw_object.specs.Codes.{memory}
 use Rattle.gw_step.specs.Job.{Job}
 use Rattle.gw_service.specs.declared.faults.JobFault.{JobFault}
 use Rattle.gw_answers.specs.Refusal.{refusal_line}
-use Rattle.gw_answers.specs.Status.{ended, refused as refused_status}
+use Rattle.gw_answers.specs.Status.{end_status, refusal_status}
 use Rattle.gw_answers.specs.Answer.{job_of}
 use Rattle.gw_report.specs.Report.{Ends}
 use Rattle.gw_batch.specs.Codes.{words_fault}
@@ -51,7 +51,7 @@ AreParts i (e ∷ es) text refused =
 
 -- the status, where something was refused or nothing was
 abbrev pub status_if : Bool → ℕ
-status_if refused = if refused then refused_status else ended
+status_if refused = if refused then refusal_status else end_status
 
 -- the text and the status of a batch
 abbrev pub IsBatchTold : List Entry → List ℕ → ℕ → Type 0
@@ -61,4 +61,4 @@ IsBatchTold es text status = (refused : Bool) × AreParts 0 es text refused × (
 abbrev pub IsPool : ℕ → ℕ → List ℕ → List ℕ → ℕ → Type 0
 IsPool workers slice bytes text status =
     MatchOption (words_fault workers slice) (IsBatchTold (entries most_objects bytes) text status)
-    (λ fault. (status ≡ refused_status) × (text ≡ refusal_line fault))
+    (λ fault. (status ≡ refusal_status) × (text ≡ refusal_line fault))

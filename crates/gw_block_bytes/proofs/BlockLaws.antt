@@ -6,8 +6,8 @@ use Rattle.gw_blocks.specs.declared.parts.Operand.{Operand}
 use Rattle.gw_blocks.specs.declared.parts.Operand.TheVariants.{Constant, Parameter, Attribute, OfEntity, Random, Procedure}
 use Rattle.gw_blocks.specs.declared.parts.Block.{Block}
 use Rattle.gw_blocks.specs.declared.parts.Block.TheVariants as blocks
-use Rattle.gw_fields.specs.Fields.{Field, behind, byte, form_read, signed, nothing, optional}
-use Rattle.gw_blocks.specs.Grammar.{parameter_number, stream_number, attribute_byte, attributes, attribute, entity_attribute_byte, entity_attributes, NumberedFits, numbered, OperandFits, operand_spelling, operand_forms, operand_read, operand, mode_byte, modes, mode, AssignFits, assign, comparison_byte, comparisons, TestFits, test_operands, condition_byte, conditions, GateFits, gate, CallFits, call, LoopFits, countdown, SplitFits, split, set_size, order_byte, orders, LinkFits, link, UnlinkFits, unlink, action_byte, actions, LogicFits, logic, SaveFits, save, PriorityFits, priority, PlusFits, plus, SpreadFits, spread, GenerateFits, generate, entity_number, procedure_number, UnitsFit, units, block_number, FractionFits, fraction, BothFits, choice, has_choices, block_spelling, tag_form, block_forms, forms_where, block_read, block}
+use Rattle.gw_fields.specs.Fields.{Field, behind, byte, form_read, signed_number, nothing, optional}
+use Rattle.gw_blocks.specs.Grammar.{parameter_number, stream_number, attribute_byte, attributes, attribute, entity_attribute_byte, entity_attributes, NumberedFits, numbered_field, OperandFits, operand_spelling, operand_forms, operand_read, operand, mode_byte, modes, mode, AssignFits, assign, comparison_byte, comparisons, TestFits, test_operands, condition_byte, conditions, GateFits, gate, CallFits, call, LoopFits, countdown, SplitFits, split, set_size, order_byte, orders, LinkFits, link, UnlinkFits, unlink, action_byte, actions, LogicFits, logic, SaveFits, save, PriorityFits, priority, PlusFits, plus, SpreadFits, spread, GenerateFits, generate, entity_number, procedure_number, UnitsFit, units, block_number, FractionFits, fraction, BothFits, choice, has_choices, block_spelling, tag_form, block_forms, forms_where, block_read, block}
 use Rattle.gw_field_bytes.proofs.OneOf.{one_of_exact, flag_exact}
 use Rattle.gw_field_bytes.proofs.Exact.{ReadsBack, ◌also◌, tag_reads_back, IsExactForm, AreExactForms, behind_exact, by_tag_exact, IsExact, byte_exact, wide16, wide32, wide64, number_exact, signed_exact, made_exact, both_exact, fitting_exact, ranged_exact, nothing_exact, optional_exact}
 
@@ -30,26 +30,26 @@ stream_number_exact = ranged_exact 1 most_streams byte (λ n h. omega arith) byt
 pub attribute_exact : IsExact attribute
 attribute_exact = one_of_exact attribute_byte attributes (λ x. search rules)
 
-pub numbered_exact : IsExact numbered
+pub numbered_exact : IsExact numbered_field
 numbered_exact = fitting_exact NumberedFits _ (λ n h. h.1) (λ n h. (tt, h))
     (made_exact _ _ _ (λ x h. refl) (λ n h. refl) (both_exact _ _ (one_of_exact entity_attribute_byte entity_attributes (λ x. search rules)) (number_exact w16 wide16)))
 
 operand_forms_exact : AreExactForms operand_spelling OperandFits operand_forms
 operand_forms_exact =
-    behind_exact operand_spelling OperandFits 0 (λ n. Constant n) (signed w64) (λ n. refl) (λ n h. h) (signed_exact w64 wide64)
+    behind_exact operand_spelling OperandFits 0 (λ n. Constant n) (signed_number w64) (λ n. refl) (λ n h. h) (signed_exact w64 wide64)
     also behind_exact operand_spelling OperandFits 1 (λ p. Parameter p) parameter_number (λ p. refl) (λ p h. h) parameter_number_exact
     also behind_exact operand_spelling OperandFits 2 (λ a. Attribute a) attribute (λ a. refl) (λ a h. tt) attribute_exact
-    also behind_exact operand_spelling OperandFits 3 (λ n. OfEntity n) numbered (λ n. refl) (λ n h. h) numbered_exact
+    also behind_exact operand_spelling OperandFits 3 (λ n. OfEntity n) numbered_field (λ n. refl) (λ n h. h) numbered_exact
     also behind_exact operand_spelling OperandFits 4 (λ s. Random s) stream_number (λ s. refl) (λ s h. h) stream_number_exact
     also behind_exact operand_spelling OperandFits 5 (λ q. Procedure q) procedure_number (λ q. refl) (λ q h. h) procedure_number_exact
     also tt
 
 operand_reads_back : (x : Operand) → OperandFits x → ReadsBack operand_read (operand_spelling x) x
 unfolding operand_read
-operand_reads_back (Constant n) fits = tag_reads_back operand_forms 0 (λ n. Constant n) (signed w64) (λ _ _. refl) (signed_exact w64 wide64) n fits
+operand_reads_back (Constant n) fits = tag_reads_back operand_forms 0 (λ n. Constant n) (signed_number w64) (λ _ _. refl) (signed_exact w64 wide64) n fits
 operand_reads_back (Parameter p) fits = tag_reads_back operand_forms 1 (λ p. Parameter p) parameter_number (λ _ _. refl) parameter_number_exact p fits
 operand_reads_back (Attribute a) fits = tag_reads_back operand_forms 2 (λ a. Attribute a) attribute (λ _ _. refl) attribute_exact a tt
-operand_reads_back (OfEntity n) fits = tag_reads_back operand_forms 3 (λ n. OfEntity n) numbered (λ _ _. refl) numbered_exact n fits
+operand_reads_back (OfEntity n) fits = tag_reads_back operand_forms 3 (λ n. OfEntity n) numbered_field (λ _ _. refl) numbered_exact n fits
 operand_reads_back (Random s) fits = tag_reads_back operand_forms 4 (λ s. Random s) stream_number (λ _ _. refl) stream_number_exact s fits
 operand_reads_back (Procedure q) fits = tag_reads_back operand_forms 5 (λ q. Procedure q) procedure_number (λ _ _. refl) procedure_number_exact q fits
 

@@ -1,7 +1,7 @@
 //! Operands, in bytes and against the rules of the object format.
 
 ghost use Rattle.std.specs.Prelude.{◌≡◌, ◌↔◌, IsTrue};
-ghost use Rattle.gw_blocks.specs.Grammar.{parameter_number, parameter_above, stream_number, numbered, operand, OperandFits, spread, SpreadFits, units};
+ghost use Rattle.gw_blocks.specs.Grammar.{parameter_number, parameter_above, stream_number, numbered_field, operand, OperandFits, spread, SpreadFits, units};
 ghost use Rattle.gw_fields.specs.Fields.{optional};
 ghost use Rattle.gw_fields.specs.Answers.{Gives};
 
@@ -64,9 +64,9 @@ pub fn read_parameter_if_any(alloc: Global, bytes: &[u8]) -> Result<(Option<u8>,
 }
 
 impl Spelled<BlockFormat> for Numbered {
-    ghost spelling = { numbered.spell };
+    ghost spelling = { numbered_field.spell };
 
-    ghost reading = { numbered.read };
+    ghost reading = { numbered_field.read };
 
     fn put<R: Receiver>(&self, to: &mut R) -> Result<(), R::Refusal> {
         (self.attribute, self.number).put(to)

@@ -4,7 +4,7 @@ ghost use Rattle.std.specs.Prelude.{◌≡◌, ◌↔◌, IsTrue};
 ghost use Rattle.std.specs.List.{All};
 ghost use Rattle.gw_blocks.specs.Grammar.{IsOfVersion, block, choice};
 ghost use Rattle.gw_blocks.specs.Grammar as model;
-ghost use Rattle.gw_fields.specs.Fields.{listed, plain};
+ghost use Rattle.gw_fields.specs.Fields.{list_of, plain};
 ghost use Rattle.gw_fields.specs.Answers.{Gives};
 
 use crate::BlockFormat;
@@ -65,7 +65,7 @@ pub fn read_blocks(
     bytes: &[u8],
     most: usize,
 ) -> Result<(Vec<Block>, &[u8]), ReadError>
-    ensures { Gives (λ x. (x.0.items, x.1.now)) result ((listed 0 most (plain (block version))).read bytes.now) }
+    ensures { Gives (λ x. (x.0.items, x.1.now)) result ((list_of 0 most (plain (block version))).read bytes.now) }
 {
     if has_choices(version) {
         read_listed::<WithChoices>(alloc, bytes, 0, most)

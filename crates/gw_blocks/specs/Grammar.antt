@@ -38,7 +38,7 @@ use Rattle.gw_blocks.specs.declared.parts.Save.{Save}
 use Rattle.gw_blocks.specs.declared.parts.Priority.{Priority as PriorityOperands}
 use Rattle.gw_blocks.specs.declared.parts.Plus.{Plus as PlusOperands}
 use Rattle.gw_blocks.specs.declared.parts.Block.TheVariants as blocks
-use Rattle.gw_fields.specs.Fields.{Read, Field, byte, number, signed, flag, nothing, as_type, both, fitting, ranged, key_above, optional, Form, behind, by_tag, one_of}
+use Rattle.gw_fields.specs.Fields.{Read, Field, byte, number, signed_number, flag, nothing, as_type, both, field_that_fits, number_between, key_above, optional, Form, behind, by_tag, one_of}
 
 -- ---- numbers
 
@@ -56,7 +56,7 @@ procedure_number = number w16
 
 -- a parameter's number
 abbrev pub parameter_number : Field ℕ
-parameter_number = ranged 1 most_parameters byte
+parameter_number = number_between 1 most_parameters byte
 
 -- a parameter's number that is above the one before it, if there is one
 abbrev pub parameter_above : Option ℕ → Field ℕ
@@ -64,7 +64,7 @@ parameter_above before = key_above nat_lt before parameter_number
 
 -- a stream's number
 abbrev pub stream_number : Field ℕ
-stream_number = ranged 1 most_streams byte
+stream_number = number_between 1 most_streams byte
 
 -- ---- operands
 
@@ -109,8 +109,8 @@ abbrev pub NumberedFits : Numbered → Type 0
 NumberedFits n = n.number < 2 ^ 16
 
 -- an attribute, and the number of the entity or the block
-abbrev pub numbered : Field Numbered
-numbered = fitting NumberedFits (as_type
+abbrev pub numbered_field : Field Numbered
+numbered_field = field_that_fits NumberedFits (as_type
     (λ (of, n). record { attribute = of; number = n })
     (λ n. (n.attribute, n.number))
     (both (one_of entity_attribute_byte entity_attributes) (number w16)))
@@ -126,20 +126,20 @@ OperandFits (Procedure q) = procedure_number.Fits q
 
 -- the tag, and the value behind it
 abbrev pub operand_spelling : Operand → List ℕ
-operand_spelling (Constant n) = 0 ∷ (signed w64).spell n
+operand_spelling (Constant n) = 0 ∷ (signed_number w64).spell n
 operand_spelling (Parameter p) = 1 ∷ parameter_number.spell p
 operand_spelling (Attribute a) = 2 ∷ attribute.spell a
-operand_spelling (OfEntity n) = 3 ∷ numbered.spell n
+operand_spelling (OfEntity n) = 3 ∷ numbered_field.spell n
 operand_spelling (Random s) = 4 ∷ stream_number.spell s
 operand_spelling (Procedure q) = 5 ∷ procedure_number.spell q
 
 -- the operands
 abbrev pub operand_forms : List (Form Operand)
 operand_forms =
-    behind 0 (λ n. Constant n) (signed w64)
+    behind 0 (λ n. Constant n) (signed_number w64)
     ∷ behind 1 (λ p. Parameter p) parameter_number
     ∷ behind 2 (λ a. Attribute a) attribute
-    ∷ behind 3 (λ n. OfEntity n) numbered
+    ∷ behind 3 (λ n. OfEntity n) numbered_field
     ∷ behind 4 (λ s. Random s) stream_number
     ∷ behind 5 (λ q. Procedure q) procedure_number
     ∷ []
@@ -159,7 +159,7 @@ pub record SpreadFits (s : Spread) : Type 0 where
 
 -- the mean and half the range
 abbrev pub spread : Field Spread
-spread = fitting SpreadFits (as_type (λ (mean, half). record { mean = mean; half = half }) (λ s. (s.mean, s.half)) (both operand operand))
+spread = field_that_fits SpreadFits (as_type (λ (mean, half). record { mean = mean; half = half }) (λ s. (s.mean, s.half)) (both operand operand))
 
 -- ---- blocks
 
@@ -172,10 +172,10 @@ pub record GenerateFits (g : GenerateOperands) : Type 0 where
 
 -- the interval, the first arrival, the limit and the priority
 abbrev pub generate : Field GenerateOperands
-generate = fitting GenerateFits (as_type
+generate = field_that_fits GenerateFits (as_type
     (λ (interval, (first, (limit, priority))). record { interval = interval; first = first; limit = limit; priority = priority })
     (λ g. (g.interval, (g.first, (g.limit, g.priority))))
-    (both spread (both (optional (signed w64)) (both (optional (number w32)) (signed w32)))))
+    (both spread (both (optional (signed_number w64)) (both (optional (number w32)) (signed_number w32)))))
 
 -- the entity's number and the number of units fit
 pub record UnitsFit (u : Units) : Type 0 where
@@ -184,7 +184,7 @@ pub record UnitsFit (u : Units) : Type 0 where
 
 -- the entity's number and the number of units
 abbrev pub units : Field Units
-units = fitting UnitsFit (as_type (λ (entity, n). record { entity = entity; number = n }) (λ u. (u.entity, u.number)) (both entity_number (number w32)))
+units = field_that_fits UnitsFit (as_type (λ (entity, n). record { entity = entity; number = n }) (λ u. (u.entity, u.number)) (both entity_number (number w32)))
 
 -- each operand fits
 pub record FractionFits (f : Fraction) : Type 0 where
@@ -194,7 +194,7 @@ pub record FractionFits (f : Fraction) : Type 0 where
 
 -- the thousandths, the block for the others, and the target
 abbrev pub fraction : Field Fraction
-fraction = fitting FractionFits (as_type
+fraction = field_that_fits FractionFits (as_type
     (λ (thousandths, (otherwise, target)). record { thousandths = thousandths; otherwise = otherwise; target = target })
     (λ f. (f.thousandths, (f.otherwise, f.target)))
     (both (number w16) (both (optional block_number) block_number)))
@@ -206,7 +206,7 @@ pub record BothFits (t : Both) : Type 0 where
 
 -- the two blocks
 abbrev pub choice : Field Both
-choice = fitting BothFits (as_type
+choice = field_that_fits BothFits (as_type
     (λ (first, second). record { first = first; second = second })
     (λ t. (t.first, t.second))
     (both (optional block_number) block_number))
@@ -232,7 +232,7 @@ pub record AssignFits (a : AssignOperands) : Type 0 where
 
 -- the parameter's number, the mode and the value
 abbrev pub assign : Field AssignOperands
-assign = fitting AssignFits (as_type
+assign = field_that_fits AssignFits (as_type
     (λ (parameter, (how, value)). record { parameter = parameter; mode = how; value = value })
     (λ a. (a.parameter, (a.mode, a.value)))
     (both parameter_number (both mode operand)))
@@ -258,7 +258,7 @@ pub record TestFits (t : TestOperands) : Type 0 where
 
 -- how they are compared, the two values, and the block for those for whom it is false
 abbrev pub test_operands : Field TestOperands
-test_operands = fitting TestFits (as_type
+test_operands = field_that_fits TestFits (as_type
     (λ (comparison, (left, (right, otherwise))). record { comparison = comparison; left = left; right = right; otherwise = otherwise })
     (λ t. (t.comparison, (t.left, (t.right, t.otherwise))))
     (both (one_of comparison_byte comparisons) (both operand (both operand (optional block_number)))))
@@ -285,7 +285,7 @@ pub record GateFits (g : GateOperands) : Type 0 where
 
 -- what is asked, the entity's number, and the block for those for whom it isn't so
 abbrev pub gate : Field GateOperands
-gate = fitting GateFits (as_type
+gate = field_that_fits GateFits (as_type
     (λ (condition, (entity, otherwise)). record { condition = condition; entity = entity; otherwise = otherwise })
     (λ g. (g.condition, (g.entity, g.otherwise)))
     (both (one_of condition_byte conditions) (both entity_number (optional block_number))))
@@ -297,7 +297,7 @@ pub record CallFits (c : Call) : Type 0 where
 
 -- the target and the parameter's number
 abbrev pub call : Field Call
-call = fitting CallFits (as_type (λ (target, parameter). record { target = target; parameter = parameter }) (λ c. (c.target, c.parameter)) (both block_number parameter_number))
+call = field_that_fits CallFits (as_type (λ (target, parameter). record { target = target; parameter = parameter }) (λ c. (c.target, c.parameter)) (both block_number parameter_number))
 
 -- each operand fits
 pub record LoopFits (l : LoopOperands) : Type 0 where
@@ -306,7 +306,7 @@ pub record LoopFits (l : LoopOperands) : Type 0 where
 
 -- the parameter's number and the target
 abbrev pub countdown : Field LoopOperands
-countdown = fitting LoopFits (as_type (λ (parameter, target). record { parameter = parameter; target = target }) (λ l. (l.parameter, l.target)) (both parameter_number block_number))
+countdown = field_that_fits LoopFits (as_type (λ (parameter, target). record { parameter = parameter; target = target }) (λ l. (l.parameter, l.target)) (both parameter_number block_number))
 
 -- each operand fits
 pub record SplitFits (s : SplitOperands) : Type 0 where
@@ -315,7 +315,7 @@ pub record SplitFits (s : SplitOperands) : Type 0 where
 
 -- the number of copies and their target
 abbrev pub split : Field SplitOperands
-split = fitting SplitFits (as_type (λ (copies, target). record { copies = copies; target = target }) (λ s. (s.copies, s.target)) (both (number w16) (optional block_number)))
+split = field_that_fits SplitFits (as_type (λ (copies, target). record { copies = copies; target = target }) (λ s. (s.copies, s.target)) (both (number w16) (optional block_number)))
 
 -- how many transactions an assembly waits for in all
 abbrev pub set_size : Field ℕ
@@ -336,7 +336,7 @@ LinkFits l = entity_number.Fits l.chain
 
 -- the user chain's number, and the end at which it is joined
 abbrev pub link : Field LinkOperands
-link = fitting LinkFits (as_type (λ (chain, order). record { chain = chain; order = order }) (λ l. (l.chain, l.order)) (both entity_number (one_of order_byte orders)))
+link = field_that_fits LinkFits (as_type (λ (chain, order). record { chain = chain; order = order }) (λ l. (l.chain, l.order)) (both entity_number (one_of order_byte orders)))
 
 -- each operand fits
 pub record UnlinkFits (u : UnlinkOperands) : Type 0 where
@@ -346,7 +346,7 @@ pub record UnlinkFits (u : UnlinkOperands) : Type 0 where
 
 -- the user chain's number, the block to which its members go, and how many are taken at most
 abbrev pub unlink : Field UnlinkOperands
-unlink = fitting UnlinkFits (as_type
+unlink = field_that_fits UnlinkFits (as_type
     (λ (chain, (target, most)). record { chain = chain; target = target; most = most })
     (λ u. (u.chain, (u.target, u.most)))
     (both entity_number (both block_number (optional (number w32)))))
@@ -367,7 +367,7 @@ LogicFits l = entity_number.Fits l.switch
 
 -- what is done, and the switch's number
 abbrev pub logic : Field LogicOperands
-logic = fitting LogicFits (as_type (λ (action, switch). record { action = action; switch = switch }) (λ l. (l.action, l.switch)) (both (one_of action_byte actions) entity_number))
+logic = field_that_fits LogicFits (as_type (λ (action, switch). record { action = action; switch = switch }) (λ l. (l.action, l.switch)) (both (one_of action_byte actions) entity_number))
 
 -- each operand fits
 pub record SaveFits (s : Save) : Type 0 where
@@ -376,7 +376,7 @@ pub record SaveFits (s : Save) : Type 0 where
 
 -- the savevalue's number, the mode and the value
 abbrev pub save : Field Save
-save = fitting SaveFits (as_type
+save = field_that_fits SaveFits (as_type
     (λ (savevalue, (how, value)). record { savevalue = savevalue; mode = how; value = value })
     (λ s. (s.savevalue, (s.mode, s.value)))
     (both entity_number (both mode operand)))
@@ -387,7 +387,7 @@ PriorityFits p = OperandFits p.value
 
 -- the new priority, and whether the transaction goes behind its peers
 abbrev pub priority : Field PriorityOperands
-priority = fitting PriorityFits (as_type (λ (value, behind_peers). record { value = value; behind = behind_peers }) (λ p. (p.value, p.behind)) (both operand flag))
+priority = field_that_fits PriorityFits (as_type (λ (value, behind_peers). record { value = value; behind = behind_peers }) (λ p. (p.value, p.behind)) (both operand flag))
 
 -- each operand fits
 pub record PlusFits (a : PlusOperands) : Type 0 where
@@ -396,7 +396,7 @@ pub record PlusFits (a : PlusOperands) : Type 0 where
 
 -- what is evaluated, and the parameter that takes it
 abbrev pub plus : Field PlusOperands
-plus = fitting PlusFits (as_type (λ (value, parameter). record { value = value; parameter = parameter }) (λ a. (a.value, a.parameter)) (both operand (optional parameter_number)))
+plus = field_that_fits PlusFits (as_type (λ (value, parameter). record { value = value; parameter = parameter }) (λ a. (a.value, a.parameter)) (both operand (optional parameter_number)))
 
 -- the operands of a block fit, if it has operands
 abbrev pub BlockFits : Block → Type 0

@@ -12,7 +12,7 @@ use Rattle.gw_model_jobs.specs.Running.{AreStillAt, IsStillAt, IsOver}
 use Rattle.gw_model_jobs.proofs.Lasting.{still_on, still_later}
 use Rattle.gw_chart.specs.declared.bands.Band.{Band}
 use Rattle.gw_chart.specs.Contents.{contents_from, value_in}
-use Rattle.gw_chart.specs.Bands.{band_of, band_in, widened, widened_from}
+use Rattle.gw_chart.specs.Bands.{band_of, band_in, widen, widened_from}
 use Rattle.gw_chart.specs.Samples.{StoodAt, HasStood, IsBand, AreBands}
 use Rattle.gw_chart.specs.Looks.{HasLooked}
 
@@ -112,7 +112,7 @@ band_lasts j from time later e band row begun order here lasting h =
 -- and widens by what stands next
 pub band_widens : (j : Job) (from time next : ℤ) (e : ℕ) (band : Band) (row more : List ℤ) → from ≤ℤ time → time <ℤ next → StoodAt j time row
     → ((t : ℤ) → time ≤ℤ t → t <ℤ next → StoodAt j t row) → StoodAt j next more → IsBand j from time e band
-    → IsBand j from next e (widened band (value_in more e))
+    → IsBand j from next e (widen band (value_in more e))
 band_widens j from time next e band row more begun order here lasting stood h =
     record {
       covered = λ value k. by_lt_z k.time next
@@ -125,7 +125,7 @@ band_widens j from time next e band row more begun order here lasting stood h =
           let at : k.time ≡ next = omega (arith, ints, there, k.most) in
           let same : k.row ≡ more = stood_once j next k.row more (subst (λ t. StoodAt j t k.row) at k.stood) stood in
           let is : value_in more e ≡ value = ap (λ r. value_in r e) (sym same) ∙ k.value_is in
-          subst (λ v. ((widened band (value_in more e)).least ≤ℤ v) × (v ≤ℤ (widened band (value_in more e)).greatest)) is
+          subst (λ v. ((widen band (value_in more e)).least ≤ℤ v) × (v ≤ℤ (widen band (value_in more e)).greatest)) is
           (omega (arith, ints, int_min_is band.least (value_in more e)), omega (arith, ints, int_max_is band.greatest (value_in more e))));
       least = least_of (HasStood j from next e) band.least (value_in more e) (stood_within j from time next e band.least (omega (arith, ints, order)) h.least) last;
       greatest = greatest_of (HasStood j from next e) band.greatest (value_in more e) (stood_within j from time next e band.greatest (omega (arith, ints, order)) h.greatest) last;
@@ -135,7 +135,7 @@ band_widens j from time next e band row more begun order here lasting stood h =
     last = record { time = next; least = omega (arith, ints, begun, order); most = omega (arith, ints); row = more; stood = stood; value_is = refl }
 
     wider : (value : ℤ) → (band.least ≤ℤ value) × (value ≤ℤ band.greatest)
-        → ((widened band (value_in more e)).least ≤ℤ value) × (value ≤ℤ (widened band (value_in more e)).greatest)
+        → ((widen band (value_in more e)).least ≤ℤ value) × (value ≤ℤ (widen band (value_in more e)).greatest)
     wider value b = (omega (arith, ints, b.0, int_min_is band.least (value_in more e)), omega (arith, ints, b.1, int_max_is band.greatest (value_in more e)))
 
 -- THE SAME FOR ALL ENTITIES
@@ -147,7 +147,7 @@ begun_in (x ∷ xs) zero = refl
 begun_in (x ∷ xs) (suc e) = begun_in xs e
 
 pub widened_in : (s : State) (k : ℕ) (entities : List Entity) (bands : List Band) (e : ℕ) → length bands ≡ length entities → e < length entities
-    → band_in (widened_from s k entities bands) e ≡ widened (band_in bands e) (value_in (contents_from s k entities) e)
+    → band_in (widened_from s k entities bands) e ≡ widen (band_in bands e) (value_in (contents_from s k entities) e)
 unfolding widened_from contents_from
 widened_in s k [] bands e count h = absurd (omega (arith, h))
 widened_in s k (x ∷ xs) [] e count h = absurd (omega (arith, count))

@@ -12,7 +12,7 @@ use Rattle.gw_answers.proofs.Endings.{one_ending, final_has_no_step}
 use Rattle.gw_chart.specs.Contents.{contents_from}
 use Rattle.gw_chart.specs.Charts.{EndsAt}
 use Rattle.gw_chart.specs.declared.window.Window.{Window}
-use Rattle.gw_chart.specs.Windows.{clipped, moment}
+use Rattle.gw_chart.specs.Windows.{clip, moment}
 use Rattle.gw_chart.specs.declared.bands.Band.{Band}
 use Rattle.gw_chart.specs.Samples.{StoodAt, AreBands}
 
@@ -29,10 +29,10 @@ same_end j end n s e alone final =
 
 -- what is said of the part of a window that a run has, which ends at a clock, is said of it by its last state
 pub seen_of : (Says : Job → Window → Type 0) (j k : Job) (end : ℤ) (n : ℕ) (s : State) (w : Window) → k ≡ j → EndsAt j end → Alone k n s → IsFinal s
-    → Says j (clipped w end) → Says k (clipped w s.clock)
+    → Says j (clip w end) → Says k (clip w s.clock)
 seen_of Says j k end n s w same ends alone final said =
     let clock = same_end j end n s ends (subst (λ (i : Job). Alone i n s) same alone) final in
-    subst (λ (i : Job). Says i (clipped w s.clock)) (sym same) (subst (λ (c : ℤ). Says j (clipped w c)) (sym clock) said)
+    subst (λ (i : Job). Says i (clip w s.clock)) (sym same) (subst (λ (c : ℤ). Says j (clip w c)) (sym clock) said)
 
 -- what stands in a run that has just gone past a time stood at it
 pub stood_here : (j k : Job) (time : ℤ) (from : ℕ) (s : State) (row : List ℤ) → k ≡ j → AreStillAt j time 0 from → AreStillAt j time from s.steps

@@ -20,11 +20,11 @@ abbrev pub band_in : List Band → ℕ → Band
 band_in bands e = slice_index_or bands e (band_of (pos 0))
 
 -- the same with one value more
-abbrev pub widened : Band → ℤ → Band
-widened band value = record { least = int_min band.least value; greatest = int_max band.greatest value }
+abbrev pub widen : Band → ℤ → Band
+widen band value = record { least = int_min band.least value; greatest = int_max band.greatest value }
 
 -- those of these entities with what is in each now, where the first has this number
 unfoldable pub widened_from : State → ℕ → List Entity → List Band → List Band
 widened_from s e [] bands = bands
 widened_from s e (entity ∷ rest) [] = []
-widened_from s e (entity ∷ rest) (band ∷ bands) = widened band (content_of entity.kind s e) ∷ widened_from s (e + 1) rest bands
+widened_from s e (entity ∷ rest) (band ∷ bands) = widen band (content_of entity.kind s e) ∷ widened_from s (e + 1) rest bands

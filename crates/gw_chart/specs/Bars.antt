@@ -2,19 +2,19 @@
 use Rattle.std.specs.Prelude.{Bool, ℕ, ◌+◌, ◌-◌, ◌*◌, ◌/◌, ◌%◌, ℤ, pos, ◌+ℤ◌, min, List, [], ◌++◌, length, slice_index, codes, nat_lt, ◌||◌, ◌&&◌, ◌==◌, if◌then◌else◌}
 use Rattle.gw_object.specs.declared.parts.Table.{Table}
 use Rattle.gw_chart.specs.declared.plot.Plot.{Plot}
-use Rattle.gw_drawing.specs.Numbers.{scaled, greatest}
+use Rattle.gw_drawing.specs.Numbers.{part_of_length, greatest}
 use Rattle.gw_drawing.specs.Text.{upto, tenths, text_at, signed_grouped}
 use Rattle.gw_chart.specs.Axes.{Levels, levels_to, reach_of}
 use Rattle.gw_chart.specs.Plots.{floor_of, height_of, colour_of, title, unit, below, levels}
 
 -- how high the bar of so many values is
 abbrev pub bar_height : Plot → Levels → ℕ → ℕ
-bar_height plot axis value = scaled (height_of plot) (min value (reach_of axis)) (reach_of axis)
+bar_height plot axis value = part_of_length (height_of plot) (min value (reach_of axis)) (reach_of axis)
 
 -- where the bar of a class of so many lies, by its number and its height
 abbrev pub bar_place : Plot → ℕ → ℕ → ℕ → List ℕ
 bar_place plot classes i height =
-    codes "<rect x=\"" ++ tenths (800 + scaled 6200 i classes + 6200 / classes / 10) ++ codes "\" y=\"" ++ tenths (floor_of plot - height)
+    codes "<rect x=\"" ++ tenths (800 + part_of_length 6200 i classes + 6200 / classes / 10) ++ codes "\" y=\"" ++ tenths (floor_of plot - height)
 
 -- how wide and how high it is, and its colour
 abbrev pub bar_size : Plot → ℕ → ℕ → List ℕ
@@ -38,7 +38,7 @@ limit_text table classes i = if i + 1 == classes then codes "more" else signed_g
 -- the same, below its bar
 abbrev pub limit : Plot → Table → ℕ → ℕ → List ℕ
 limit plot table classes i =
-    text_at (800 + scaled 6200 i classes + 6200 / classes / 2) (floor_of plot + 160) (codes " text-anchor=\"middle\"")
+    text_at (800 + part_of_length 6200 i classes + 6200 / classes / 2) (floor_of plot + 160) (codes " text-anchor=\"middle\"")
     ++ limit_text table classes i ++ codes "</text>\n"
 
 -- there is room for it below one of so many bars, but for those near the last, and below the last

@@ -8,16 +8,16 @@ use Rattle.gw_step.specs.State.{State, user_chain}
 use Rattle.gw_step.specs.Changes.{facility, storage, queue, switch, savevalue}
 
 -- a count as a number; none comes to 2^63
-abbrev pub counted : ℕ → ℤ
-counted count = pos (min count (2 ^ 63 - 1))
+abbrev pub count_value : ℕ → ℤ
+count_value count = pos (min count (2 ^ 63 - 1))
 
 -- what is in the entity of a number, which is of this kind: 1 in a facility that is owned or a switch that is set, the units in a storage or a queue, the members of a user chain, the value of a savevalue
 abbrev pub content_of : Kind → State → ℕ → ℤ
 content_of kinds.Facility s e = pos (from_bool (is_some (facility e s).owner))
-content_of (kinds.Storage capacity) s e = counted (storage e s).contents.content
-content_of kinds.Queue s e = counted (queue e s).content
+content_of (kinds.Storage capacity) s e = count_value (storage e s).contents.content
+content_of kinds.Queue s e = count_value (queue e s).content
 content_of (kinds.Switch set) s e = pos (from_bool (switch e s))
-content_of kinds.Chain s e = counted (length (user_chain e s))
+content_of kinds.Chain s e = count_value (length (user_chain e s))
 content_of (kinds.Savevalue initial) s e = savevalue e s
 content_of kind s e = pos 0
 

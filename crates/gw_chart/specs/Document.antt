@@ -12,7 +12,7 @@ use Rattle.gw_chart.specs.declared.plot.Plot.{Plot}
 use Rattle.gw_chart.specs.declared.bands.Band.{Band}
 use Rattle.gw_chart.specs.declared.window.Window.{Window}
 use Rattle.gw_drawing.specs.Numbers.{total}
-use Rattle.gw_drawing.specs.Text.{upto, tenths, escaped, grouped}
+use Rattle.gw_drawing.specs.Text.{upto, tenths, xml_text, digits_in_threes}
 use Rattle.gw_chart.specs.Plots.{plot_of, panel_height}
 use Rattle.gw_chart.specs.Lines.{line_panel, limit_of}
 use Rattle.gw_chart.specs.Bars.{bar_panel}
@@ -32,16 +32,16 @@ begins_at entities e = 500 + total (height_at entities) e
 -- what the title begins with: the name of what is run, if it has one
 abbrev pub subject : List ℕ → List ℕ
 subject [] = codes "One run"
-subject (byte ∷ name) = escaped (byte ∷ name) ++ codes ": one run"
+subject (byte ∷ name) = xml_text (byte ∷ name) ++ codes ": one run"
 
 -- when the run ends, where more of it lies behind the window
-abbrev pub ending : ℕ → ℕ → List ℕ
-ending to end = if nat_lt to end then codes " of " ++ grouped (decimal end) else []
+abbrev pub end_note : ℕ → ℕ → List ℕ
+end_note to end = if nat_lt to end then codes " of " ++ digits_in_threes (decimal end) else []
 
 -- the title: what is run, from where to where it is shown, and when it ends
 unfoldable pub heading : List ℕ → Window → ℕ → List ℕ
 heading name w end =
-    subject name ++ codes ", from clock " ++ grouped (decimal w.from) ++ codes " to " ++ grouped (decimal w.to) ++ ending w.to end
+    subject name ++ codes ", from clock " ++ digits_in_threes (decimal w.from) ++ codes " to " ++ digits_in_threes (decimal w.to) ++ end_note w.to end
 
 -- what the document begins with: its height, and its title
 unfoldable pub head : ℕ → List ℕ → Window → ℕ → List ℕ
@@ -53,17 +53,17 @@ head height name w end =
     ++ codes "</text>\n<text x=\"80\" y=\"45\" fill=\"#555\">Lines: what stood at 500 moments, evenly apart. Pale strokes: the least and the greatest between.</text>\n"
 
 -- what is drawn in the panel of the entity of a number, which is of this kind and has this name
-abbrev pub drawn : Kind → Plot → List ℕ → Window → State → List (List ℤ) → List (List Band) → ℕ → List ℕ
-drawn (kinds.Table operands) plot name w s rows bands e = bar_panel plot name operands (table e s).classes
-drawn kind plot name w s rows bands e = line_panel plot name rows bands e w (limit_of kind)
+abbrev pub panel_drawing : Kind → Plot → List ℕ → Window → State → List (List ℤ) → List (List Band) → ℕ → List ℕ
+panel_drawing (kinds.Table operands) plot name w s rows bands e = bar_panel plot name operands (table e s).classes
+panel_drawing kind plot name w s rows bands e = line_panel plot name rows bands e w (limit_of kind)
 
 -- a panel, which begins so far below the upper end of the document
-abbrev pub placed : ℕ → List ℕ → List ℕ
-placed y inside = codes "<g transform=\"translate(0," ++ tenths y ++ codes ")\">\n" ++ inside ++ codes "</g>\n"
+abbrev pub panel_below : ℕ → List ℕ → List ℕ
+panel_below y inside = codes "<g transform=\"translate(0," ++ tenths y ++ codes ")\">\n" ++ inside ++ codes "</g>\n"
 
 -- the panel of an entity, if its kind has one
 abbrev pub panel_of : Window → State → List (List ℤ) → List (List Band) → ℕ → ℕ → Entity → List ℕ
-panel_of w s rows bands y e entity = option_map_or (λ plot. placed y (drawn entity.kind plot entity.name w s rows bands e)) (plot_of entity.kind) []
+panel_of w s rows bands y e entity = option_map_or (λ plot. panel_below y (panel_drawing entity.kind plot entity.name w s rows bands e)) (plot_of entity.kind) []
 
 -- the same for the entity of a number
 abbrev pub panel_at : Window → State → List (List ℤ) → List (List Band) → List Entity → ℕ → List ℕ

@@ -7,7 +7,7 @@ use Rattle.gw_object.specs.declared.parts.Kind.{Kind}
 use Rattle.gw_object.specs.declared.parts.Kind.TheVariants as kinds
 use Rattle.gw_chart.specs.declared.plot.Plot.{Plot}
 use Rattle.gw_chart.specs.declared.window.Window.{Window}
-use Rattle.gw_drawing.specs.Numbers.{scaled, greatest, round_step}
+use Rattle.gw_drawing.specs.Numbers.{part_of_length, greatest, round_step}
 use Rattle.gw_drawing.specs.Text.{upto, tenths, label}
 use Rattle.gw_chart.specs.declared.bands.Band.{Band}
 use Rattle.gw_chart.specs.Contents.{value_in}
@@ -20,7 +20,7 @@ use Rattle.gw_chart.specs.Plots.{floor_of, height_at, colour_of, upright_line, t
 
 -- how far it is along a clock axis of this length to a clock, which lies so far behind its begin
 abbrev pub place_of : ℕ → ℕ → ℕ
-place_of span part = 800 + scaled 6200 part span
+place_of span part = 800 + part_of_length 6200 part span
 
 -- the upright line at a clock on an axis that begins at another and reaches so far, and the clock
 abbrev pub clock : Plot → ℕ → ℕ → ℕ → List ℕ
@@ -48,7 +48,7 @@ content rows e i = value_in (slice_index_or rows i []) e
 
 -- a point: a moment, by its number, and a place
 abbrev pub point : ℕ → ℕ → List ℕ
-point i y = codes " " ++ tenths (800 + scaled 6200 i 499) ++ codes "," ++ tenths y
+point i y = codes " " ++ tenths (800 + part_of_length 6200 i 499) ++ codes "," ++ tenths y
 
 -- a line that goes up or down at a moment
 abbrev pub turn : ℕ → ℕ → ℕ → List ℕ
@@ -90,7 +90,7 @@ is_beyond band before behind = int_lt band.least (int_min before behind) || int_
 -- an upright stroke from the greatest to the least, halfway between two moments
 abbrev pub stroke : Plot → Levels → Band → ℕ → List ℕ
 stroke plot axis band i =
-    codes "M" ++ tenths (800 + scaled 6200 (2 * i + 1) 998) ++ codes " " ++ tenths (height_at plot axis band.greatest)
+    codes "M" ++ tenths (800 + part_of_length 6200 (2 * i + 1) 998) ++ codes " " ++ tenths (height_at plot axis band.greatest)
     ++ codes "V" ++ tenths (height_at plot axis band.least)
 
 -- the stroke between a moment and the next, where there is one

@@ -4,8 +4,8 @@ use Rattle.gw_object.specs.declared.parts.Kind.{Kind}
 use Rattle.gw_object.specs.declared.parts.Kind.TheVariants as kinds
 use Rattle.gw_chart.specs.declared.plot.Plot.{Plot}
 use Rattle.gw_chart.specs.declared.plot.Plot.TheVariants.{Owned, Units, Waiting, Set, Members, Value, Classes}
-use Rattle.gw_drawing.specs.Numbers.{scaled}
-use Rattle.gw_drawing.specs.Text.{upto, escaped, tenths, text_at, signed_grouped}
+use Rattle.gw_drawing.specs.Numbers.{part_of_length}
+use Rattle.gw_drawing.specs.Text.{upto, xml_text, tenths, text_at, signed_grouped}
 use Rattle.gw_chart.specs.Axes.{Levels, reach_of, number_at}
 
 -- the plot of a kind of entity, if it has one
@@ -82,7 +82,7 @@ upright_line x plot = codes "<path d=\"M" ++ tenths x ++ codes " 32.0V" ++ tenth
 unfoldable pub title : List ℕ → Plot → List ℕ
 title name plot =
     codes "<rect x=\"80\" y=\"12\" width=\"10\" height=\"10\" fill=\"" ++ colour_of plot
-    ++ codes "\"/>\n<text x=\"96\" y=\"21\"><tspan font-weight=\"bold\">" ++ escaped name
+    ++ codes "\"/>\n<text x=\"96\" y=\"21\"><tspan font-weight=\"bold\">" ++ xml_text name
     ++ codes "</tspan><tspan fill=\"#555\">: " ++ shown_in plot ++ codes "</tspan></text>\n"
 
 -- the unit of the upright axis
@@ -99,7 +99,7 @@ below plot words = text_at 3900 (floor_of plot + 330) (codes " text-anchor=\"mid
 
 -- the place of a step, from the upper end of the panel
 abbrev pub level_at : Plot → Levels → ℕ → ℕ
-level_at plot axis i = floor_of plot - scaled (height_of plot) i axis.count
+level_at plot axis i = floor_of plot - part_of_length (height_of plot) i axis.count
 
 -- the number of a step beside a place
 unfoldable pub number_text : ℕ → Levels → ℕ → List ℕ
@@ -119,7 +119,7 @@ levels plot axis = lower_levels plot axis ++ level plot axis axis.count
 
 -- how far from 0 a number is drawn; one that lies beyond the axis is drawn at most its whole reach from 0
 abbrev pub length_of : Plot → Levels → ℤ → ℕ
-length_of plot axis number = scaled (height_of plot) (min (unsigned_abs number) (reach_of axis)) (reach_of axis)
+length_of plot axis number = part_of_length (height_of plot) (min (unsigned_abs number) (reach_of axis)) (reach_of axis)
 
 -- the place of a number, from the upper end of the panel
 abbrev pub height_at : Plot → Levels → ℤ → ℕ

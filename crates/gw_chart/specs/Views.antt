@@ -32,7 +32,7 @@ line_panel plot name seen e w limit = lines.line_panel plot name seen.rows.items
 -- what is drawn in the panel of an entity
 abbrev pub drawing_of : Plot → Window → Progress → Samples → ℕ → Entity → List ℕ
 drawing_of plot w p seen e entity =
-    documents.drawn entity.kind plot entity.name w p.state seen.rows.items seen.bands.items e
+    documents.panel_drawing entity.kind plot entity.name w p.state seen.rows.items seen.bands.items e
 
 -- the panel of an entity, of that of a number, and of all
 abbrev pub panel_of : Window → Progress → Samples → ℕ → ℕ → Entity → List ℕ

@@ -53,7 +53,7 @@ pub(crate) fn bands_now(alloc: Global, sim: &Sim) -> Result<Vec<Band>, Memory>
 fn widened(band: Band, sim: &Sim, number: u16, kind: &Kind) -> Band
     requires { number < length sim.now.job.parts.entities }
     ensures { result
-        ≡ model.widened band (content_in kind.now sim.now.state number) }
+        ≡ model.widen band (content_in kind.now sim.now.state number) }
 {
     let value = content_of(sim, number, kind);
     Band {

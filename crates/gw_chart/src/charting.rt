@@ -2,10 +2,10 @@
 
 ghost use Rattle.std.specs.Prelude.{◌≡◌, Some, IfOk};
 ghost use Rattle.gw_step.specs.Job.{Alone, IsFinal, start_of};
-ghost use Rattle.gw_answers.specs.Status.{ended as ended_status};
+ghost use Rattle.gw_answers.specs.Status.{end_status as ended_status};
 ghost use Rattle.gw_model_jobs.specs.ModelJobs.{AnswersModel};
 ghost use Rattle.gw_chart.specs.Samples.{AreSamples, AreAllBands};
-ghost use Rattle.gw_chart.specs.Windows.{clipped as clipped_to};
+ghost use Rattle.gw_chart.specs.Windows.{clip as clipped_to};
 ghost use Rattle.gw_chart.specs.Charts.{EndsAt, IsChart, IsSheet, Shows};
 
 use crate::document::put_document;

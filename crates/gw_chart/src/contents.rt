@@ -1,7 +1,7 @@
 //! What is in the entities of a model.
 
 ghost use Rattle.std.specs.Prelude.{◌≡◌, ◌<◌, length, IfOk};
-ghost use Rattle.gw_chart.specs.Contents.{content_of, contents_from, counted};
+ghost use Rattle.gw_chart.specs.Contents.{content_of, contents_from, count_value};
 
 use gw_object::{Items, Kind, Memory};
 use gw_scan::Sim;
@@ -9,7 +9,7 @@ use std::alloc::Global;
 
 /// A count as a number.
 fn counted(count: u64) -> i64
-    ensures { result ≡ counted count }
+    ensures { result ≡ count_value count }
 {
     count.min(i64::MAX as u64) as i64
 }

@@ -62,7 +62,7 @@ fn put_subject(out: &mut Vec<u8>, name: &[u8]) -> Result<(), Memory>
 
 /// When the run ends, where more of it lies behind the window.
 fn put_ending(out: &mut Vec<u8>, to: u64, end: u64) -> Result<(), Memory>
-    ensures { Puts result out.old out.new (model.ending to end) }
+    ensures { Puts result out.old out.new (model.end_note to end) }
 {
     if end <= to {
         return Ok(());

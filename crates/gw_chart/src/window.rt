@@ -17,7 +17,7 @@ pub struct Window {
 
 /// The part of a window that a run has, whose end is at a clock.
 pub(crate) fn clipped(window: Window, end: Time) -> Window
-    ensures { result ≡ model.clipped window end.0 }
+    ensures { result ≡ model.clip window end.0 }
 {
     let end = end.0.unsigned_abs();
     Window {

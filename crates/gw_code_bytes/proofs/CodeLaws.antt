@@ -6,7 +6,7 @@ use Rattle.std.proofs.Math.Bool.{and-false}
 use Rattle.gw_num.specs.declared.operators.Binary.TheVariants.{Power, Multiply, Divide, Remainder, Add, Subtract, Greater, GreaterOrEqual, Less, LessOrEqual, Equal, NotEqual, And, Or}
 use Rattle.gw_num.specs.declared.operators.Unary.TheVariants.{Negate, Not}
 use Rattle.gw_blocks.specs.Limits.{most_parameters}
-use Rattle.gw_blocks.specs.Grammar.{parameter_number, attribute, numbered, tag_form}
+use Rattle.gw_blocks.specs.Grammar.{parameter_number, attribute, numbered_field, tag_form}
 use Rattle.gw_block_bytes.proofs.BlockLaws.{parameter_number_exact, attribute_exact, numbered_exact}
 use Rattle.gw_code.specs.Limits.{most_instructions, most_backs, most_locals}
 use Rattle.gw_code.specs.declared.parts.Sna.{Sna}
@@ -16,7 +16,7 @@ use Rattle.gw_code.specs.declared.parts.Instruction.TheVariants.{Push, Get, Set,
 use Rattle.gw_code.specs.declared.parts.Procedure.{Procedure}
 use Rattle.gw_fields.specs.Codes as codes
 use Rattle.gw_fields.specs.declared.error.Bad.{Bad}
-use Rattle.gw_fields.specs.Fields.{bad, byte, number, signed, nothing, form_read, by_tag, ElementsFit}
+use Rattle.gw_fields.specs.Fields.{bad, byte, number, signed_number, nothing, form_read, by_tag, ElementsFit}
 use Rattle.gw_code.specs.Grammar.{SnaFits, sna_spelling, sna_forms, sna_read, sna, BackFits, jump_back, InstructionFits, instruction_spelling, instruction_forms, instruction_read, instruction, is_back, backs, begins_with_back, next_instruction, need, counts, ProcedureFits, NeedsAscend, procedure}
 use Rattle.gw_field_bytes.proofs.AboveLast.{above_last_exact, above_last_fit, above_last_ascends}
 use Rattle.gw_code.proofs.Backs.{backs_within, code_fits, begins_as_it_is, front_of_back}
@@ -28,14 +28,14 @@ sna_forms_exact : AreExactForms sna_spelling SnaFits sna_forms
 sna_forms_exact =
     behind_exact sna_spelling SnaFits 1 (λ p. Parameter p) parameter_number (λ p. refl) (λ p h. h) parameter_number_exact
     also behind_exact sna_spelling SnaFits 2 (λ a. Attribute a) attribute (λ a. refl) (λ a h. tt) attribute_exact
-    also behind_exact sna_spelling SnaFits 3 (λ n. OfEntity n) numbered (λ n. refl) (λ n h. h) numbered_exact
+    also behind_exact sna_spelling SnaFits 3 (λ n. OfEntity n) numbered_field (λ n. refl) (λ n h. h) numbered_exact
     also tt
 
 sna_reads_back : (x : Sna) → SnaFits x → ReadsBack sna_read (sna_spelling x) x
 unfolding sna_read
 sna_reads_back (Parameter p) fits = tag_reads_back sna_forms 1 (λ p. Parameter p) parameter_number (λ _ _. refl) parameter_number_exact p fits
 sna_reads_back (Attribute a) fits = tag_reads_back sna_forms 2 (λ a. Attribute a) attribute (λ _ _. refl) attribute_exact a tt
-sna_reads_back (OfEntity n) fits = tag_reads_back sna_forms 3 (λ n. OfEntity n) numbered (λ _ _. refl) numbered_exact n fits
+sna_reads_back (OfEntity n) fits = tag_reads_back sna_forms 3 (λ n. OfEntity n) numbered_field (λ _ _. refl) numbered_exact n fits
 
 pub sna_exact : IsExact sna
 unfolding sna_read
@@ -53,7 +53,7 @@ tag_form_exact tag i spelled fits = behind_exact instruction_spelling Instructio
 
 instruction_forms_exact : AreExactForms instruction_spelling InstructionFits instruction_forms
 instruction_forms_exact =
-    behind_exact instruction_spelling InstructionFits 0 (λ z. Push z) (signed w64) (λ z. refl) (λ z h. h) (signed_exact w64 wide64)
+    behind_exact instruction_spelling InstructionFits 0 (λ z. Push z) (signed_number w64) (λ z. refl) (λ z h. h) (signed_exact w64 wide64)
     also behind_exact instruction_spelling InstructionFits 1 (λ local. Get local) byte (λ local. refl) (λ local h. h) byte_exact
     also behind_exact instruction_spelling InstructionFits 2 (λ local. Set local) byte (λ local. refl) (λ local h. h) byte_exact
     also behind_exact instruction_spelling InstructionFits 3 (λ a. Value a) sna (λ a. refl) (λ a h. h) sna_exact
@@ -86,7 +86,7 @@ alone_reads_back tag i found = tag_reads_back instruction_forms tag (λ _. i) no
 
 instruction_reads_back : (i : Instruction) → InstructionFits i → ReadsBack instruction_read (instruction_spelling i) i
 unfolding instruction_read
-instruction_reads_back (Push z) fits = tag_reads_back instruction_forms 0 (λ z. Push z) (signed w64) (λ _ _. refl) (signed_exact w64 wide64) z fits
+instruction_reads_back (Push z) fits = tag_reads_back instruction_forms 0 (λ z. Push z) (signed_number w64) (λ _ _. refl) (signed_exact w64 wide64) z fits
 instruction_reads_back (Get local) fits = tag_reads_back instruction_forms 1 (λ local. Get local) byte (λ _ _. refl) byte_exact local fits
 instruction_reads_back (Set local) fits = tag_reads_back instruction_forms 2 (λ local. Set local) byte (λ _ _. refl) byte_exact local fits
 instruction_reads_back (Value a) fits = tag_reads_back instruction_forms 3 (λ a. Value a) sna (λ _ _. refl) sna_exact a fits

@@ -18,7 +18,7 @@ use Rattle.gw_operands.specs.declared.ends.PlusEnd.{PlusEnd}
 use Rattle.gw_operands.specs.Environment.{Environment}
 use Rattle.gw_operands.specs.Code.{procedure_at, asks_for, called_in, calls_lower, costs_of}
 use Rattle.gw_rules.specs.PlusChecks.{PlusPasses}
-use Rattle.gw_operands.specs.Meaning.{Derives, opening}
+use Rattle.gw_operands.specs.Meaning.{Derives, opening_frame}
 use Rattle.gw_rules.specs.PlusLaws.{HasSet, MayBegin}
 use Rattle.gw_rules.proofs.PlusRules.{checked}
 use Rattle.gw_rules.proofs.PlusSteps.{among_more}
@@ -28,18 +28,18 @@ use Rattle.gw_compile.specs.Value.{outcome_with}
 
 module _ (p : Parts) (env : Environment) (fits : HasSpelling p) (kinds : KindsPass p) (passes : PlusPasses p) where
   -- what is derived of a procedure that may begin is what it comes to
-  pub comes_with : (q : ℕ) (pr : Procedure) (arguments : List ℤ) (k : ℕ) (r : Result ℤ PlusEnd) → MayBegin p env q pr arguments → Derives p env q (opening (procedure_at p q) arguments) k r → outcome_with p env q arguments ≡ Some r
+  pub comes_with : (q : ℕ) (pr : Procedure) (arguments : List ℤ) (k : ℕ) (r : Result ℤ PlusEnd) → MayBegin p env q pr arguments → Derives p env q (opening_frame (procedure_at p q) arguments) k r → outcome_with p env q arguments ≡ Some r
   unfolding outcome_with
   comes_with q pr arguments k r may d =
-      let own = subst (λ (o : Option Procedure). Derives p env q (opening o arguments) k r) may.there d in
+      let own = subst (λ (o : Option Procedure). Derives p env q (opening_frame o arguments) k r) may.there d in
       let within = cost_bounds_law p env q pr arguments k r fits kinds passes may own in
-      derived_is_answered p env (at 0 (costs_of p) q) q (opening (procedure_at p q) arguments) k r d within
+      derived_is_answered p env (at 0 (costs_of p) q) q (opening_frame (procedure_at p q) arguments) k r d within
 
   -- one that may begin comes to something
-  pub begins : (q : ℕ) (pr : Procedure) (arguments : List ℤ) → MayBegin p env q pr arguments → (k : ℕ) × (r : Result ℤ PlusEnd) × Derives p env q (opening (procedure_at p q) arguments) k r
+  pub begins : (q : ℕ) (pr : Procedure) (arguments : List ℤ) → MayBegin p env q pr arguments → (k : ℕ) × (r : Result ℤ PlusEnd) × Derives p env q (opening_frame (procedure_at p q) arguments) k r
   begins q pr arguments may =
       let d = has_outcome_law p env q pr arguments fits kinds passes may in
-      (d.0, d.1, subst (λ (o : Option Procedure). Derives p env q (opening o arguments) d.0 d.1) (sym may.there) d.2)
+      (d.0, d.1, subst (λ (o : Option Procedure). Derives p env q (opening_frame o arguments) d.0 d.1) (sym may.there) d.2)
 
   -- what an instruction asks for is set, where what its procedure needs is
   pub asked_is_set : (n : ℕ) (pr : Procedure) (k : ℕ) (i : Instruction) → procedure_at p n ≡ Some pr → HasSet env pr.needs → slice_get pr.code k ≡ Some i → HasSet env (asks_for p i)

@@ -22,7 +22,7 @@ use Rattle.gw_operands.specs.Environment.{Environment, attribute_value as own_va
 use Rattle.gw_operands.specs.Code.{procedure_at, arguments_of, needs_of, most_values}
 use Rattle.gw_rules.specs.PlusChecks.{PlusPasses}
 use Rattle.gw_operands.specs.Results.{value_by_operand}
-use Rattle.gw_operands.specs.Meaning.{Taken, Frame, Next, Goes, Calls, Returns, Stuck, pushed, given, popped, calculated, calls_with, reads_source, act, next, opened, opening, Derives}
+use Rattle.gw_operands.specs.Meaning.{Taken, Frame, Next, Goes, Calls, Returns, Stuck, push_value, or_stuck, pop_value, calculate, calls_with, reads_source, act, next, frame_of_locals, opening_frame, Derives}
 use Rattle.gw_operands.specs.Outcome.{outcome_of}
 use Rattle.gw_rules.specs.PlusLaws.{HasSet, MayBegin}
 use Rattle.gw_rules.proofs.PlusReading.{MayRead}
@@ -88,8 +88,8 @@ module _ (names : Numbers) (scope : Scope) (p : Parts) (env : Environment) (fits
   step : (f : Frame) (i : Instruction) (k : ℕ) (r : Result ℤ PlusEnd) → slice_get pr.code f.place ≡ Some i → Derives p env n f k r → Unrolled p env n (act p env i f) k r
   unfolding next
   step f i k r here d =
-      let e = ap (λ (o : Option Procedure). given o (λ (q : Procedure). given (slice_get q.code f.place) (λ j. act p env j f))) there
-      ∙ ap (λ (o : Option Instruction). given o (λ j. act p env j f)) here in
+      let e = ap (λ (o : Option Procedure). or_stuck o (λ (q : Procedure). or_stuck (slice_get q.code f.place) (λ j. act p env j f))) there
+      ∙ ap (λ (o : Option Instruction). or_stuck o (λ j. act p env j f)) here in
       subst (λ x. Unrolled p env n x k r) e (unroll d)
 
   -- where there was room
@@ -102,7 +102,7 @@ module _ (names : Numbers) (scope : Scope) (p : Parts) (env : Environment) (fits
   went_to false g h is = absurd (cc)
 
   -- what arithmetic made
-  calculates : (a : Result ℤ NumFault) (place : ℕ) (stack locals : List ℤ) (taken : Taken) (k : ℕ) (r : Result ℤ PlusEnd) → Unrolled p env n (calculated a (frame place stack locals taken)) k r → GoesOn single (arithmetic_value a) place stack locals taken r
+  calculates : (a : Result ℤ NumFault) (place : ℕ) (stack locals : List ℤ) (taken : Taken) (k : ℕ) (r : Result ℤ PlusEnd) → Unrolled p env n (calculate a (frame place stack locals taken)) k r → GoesOn single (arithmetic_value a) place stack locals taken r
   calculates (Ok v) place stack locals taken k r u = went (nat_lt (length stack) most_values) (frame place (stack ++ v ∷ []) locals taken) k r u
   calculates (Err fault) place stack locals taken k r u = u.1
 
@@ -115,12 +115,12 @@ module _ (names : Numbers) (scope : Scope) (p : Parts) (env : Environment) (fits
       (u.1, subst (λ h. Derives p env n h u.1 r) same u.3)
 
   -- GET
-  got : (o : Option ℤ) (place : ℕ) (stack locals : List ℤ) (taken : Taken) (k : ℕ) (r : Result ℤ PlusEnd) → Unrolled p env n (given o (λ v. pushed v (frame place stack locals taken))) k r → GoesOn single (if_there o) place stack locals taken r
+  got : (o : Option ℤ) (place : ℕ) (stack locals : List ℤ) (taken : Taken) (k : ℕ) (r : Result ℤ PlusEnd) → Unrolled p env n (or_stuck o (λ v. push_value v (frame place stack locals taken))) k r → GoesOn single (if_there o) place stack locals taken r
   got None place stack locals taken k r u = absurd u
   got (Some v) place stack locals taken k r u = went (nat_lt (length stack) most_values) (frame place (stack ++ v ∷ []) locals taken) k r u
 
   -- VALUE of something kept
-  kept : (o : Option ℤ) (finish : ℤ → ℤ) (place : ℕ) (stack locals : List ℤ) (taken : Taken) (k : ℕ) (r : Result ℤ PlusEnd) → Unrolled p env n (given o (λ v. pushed (finish v) (frame place stack locals taken))) k r → GoesOn single (with_value (if_there o) (λ v. comes (finish v))) place stack locals taken r
+  kept : (o : Option ℤ) (finish : ℤ → ℤ) (place : ℕ) (stack locals : List ℤ) (taken : Taken) (k : ℕ) (r : Result ℤ PlusEnd) → Unrolled p env n (or_stuck o (λ v. push_value (finish v) (frame place stack locals taken))) k r → GoesOn single (with_value (if_there o) (λ v. comes (finish v))) place stack locals taken r
   kept None finish place stack locals taken k r u = absurd u
   kept (Some v) finish place stack locals taken k r u = went (nat_lt (length stack) most_values) (frame place (stack ++ finish v ∷ []) locals taken) k r u
 
@@ -140,7 +140,7 @@ module _ (names : Numbers) (scope : Scope) (p : Parts) (env : Environment) (fits
   as_it_is (Ok v) place stack locals taken r w = w
 
   -- CALL, of a procedure that takes the values above the stack
-  invokes : (q : ℕ) (vs : List ℤ) (o : Option Procedure) (place : ℕ) (stack locals : List ℤ) (taken : Taken) (k : ℕ) (r : Result ℤ PlusEnd) → procedure_at p q ≡ o → length vs ≡ arguments_of o → HasSet env (needs_of o) → Unrolled p env n (given o (λ (c : Procedure). calls_with q c.arguments (frame place (stack ++ vs) locals taken))) k r → GoesOn single (outcome_with p env q vs) place stack locals taken r
+  invokes : (q : ℕ) (vs : List ℤ) (o : Option Procedure) (place : ℕ) (stack locals : List ℤ) (taken : Taken) (k : ℕ) (r : Result ℤ PlusEnd) → procedure_at p q ≡ o → length vs ≡ arguments_of o → HasSet env (needs_of o) → Unrolled p env n (or_stuck o (λ (c : Procedure). calls_with q c.arguments (frame place (stack ++ vs) locals taken))) k r → GoesOn single (outcome_with p env q vs) place stack locals taken r
   invokes q vs None place stack locals taken k r is many needs u = absurd u
   invokes q vs (Some c) place stack locals taken k r is many needs u =
       let calls : calls_with q c.arguments (frame place (stack ++ vs) locals taken) ≡ Calls q vs (λ v. v) (frame place stack locals taken) = rw (enough stack vs c.arguments many, above stack vs c.arguments many, below stack vs c.arguments many) refl in
@@ -167,15 +167,15 @@ module _ (names : Numbers) (scope : Scope) (p : Parts) (env : Environment) (fits
   unfolding act
   does_unary operator v place stack locals taken k r here d =
       let u = step (frame place (stack ++ v ∷ []) locals taken) (Unary operator) k r here d in
-      let w = subst (λ x. Unrolled p env n x k r) (popped_last stack v (λ x rest. calculated (unary_value operator x) (frame (place + 1) rest locals taken))) u in
+      let w = subst (λ x. Unrolled p env n x k r) (popped_last stack v (λ x rest. calculate (unary_value operator x) (frame (place + 1) rest locals taken))) u in
       calculates (unary_value operator v) (place + 1) stack locals taken k r w
 
   does_binary : (operator : BinaryOperator) (left right : ℤ) (place : ℕ) (stack locals : List ℤ) (taken : Taken) (k : ℕ) (r : Result ℤ PlusEnd) → slice_get pr.code place ≡ Some (Binary operator) → Derives p env n (frame place ((stack ++ left ∷ []) ++ right ∷ []) locals taken) k r → GoesOn single (arithmetic_value (binary_value operator left right)) (place + 1) stack locals taken r
   unfolding act
   does_binary operator left right place stack locals taken k r here d =
       let u = step (frame place ((stack ++ left ∷ []) ++ right ∷ []) locals taken) (Binary operator) k r here d in
-      let with_left : ℤ → ℤ → List ℤ → Next = λ x y rest. calculated (binary_value operator y x) (frame (place + 1) rest locals taken) in
-      let e = popped_last (stack ++ left ∷ []) right (λ x rest. popped rest (with_left x)) ∙ popped_last stack left (with_left right) in
+      let with_left : ℤ → ℤ → List ℤ → Next = λ x y rest. calculate (binary_value operator y x) (frame (place + 1) rest locals taken) in
+      let e = popped_last (stack ++ left ∷ []) right (λ x rest. pop_value rest (with_left x)) ∙ popped_last stack left (with_left right) in
       calculates (binary_value operator left right) (place + 1) stack locals taken k r (subst (λ x. Unrolled p env n x k r) e u)
 
   does_call : (q : ℕ) (vs : List ℤ) (place : ℕ) (stack locals : List ℤ) (taken : Taken) (k : ℕ) (r : Result ℤ PlusEnd) → length vs ≡ arguments_of (procedure_at p q) → slice_get pr.code place ≡ Some (Call q) → Derives p env n (frame place (stack ++ vs) locals taken) k r → GoesOn single (outcome_with p env q vs) (place + 1) stack locals taken r
@@ -292,8 +292,8 @@ unfolding outcome_of outcome_with
 outcome_is p env n = refl
 
 -- a procedure without arguments and locals opens with no locals
-opens : (p : Parts) (n : ℕ) (pr : Procedure) → procedure_at p n ≡ Some pr → pr.locals ≡ 0 → opening (procedure_at p n) [] ≡ frame 0 [] [] []
-opens p n pr there none = ap (λ (o : Option Procedure). opening o []) there ∙ ap (λ k. opened k []) none
+opens : (p : Parts) (n : ℕ) (pr : Procedure) → procedure_at p n ≡ Some pr → pr.locals ≡ 0 → opening_frame (procedure_at p n) [] ≡ frame 0 [] [] []
+opens p n pr there none = ap (λ (o : Option Procedure). opening_frame o []) there ∙ ap (λ k. frame_of_locals k []) none
 
 -- the procedure that an expression becomes keeps its value
 pub keeps_value : (names : Numbers) (e : Expression) (pr : Procedure) → pr.arguments ≡ 0 → pr.locals ≡ 0 → pr.code ≡ procedure_code names e → first_blame names [] e ≡ None → KeepsValue names e pr

@@ -12,7 +12,7 @@ use Rattle.gw_operands.specs.declared.ends.PlusEnd.{PlusEnd}
 use Rattle.gw_operands.specs.Environment.{Environment, kept_value}
 use Rattle.gw_operands.specs.Code.{procedure_at, costs_of}
 use Rattle.gw_operands.specs.Results.{value_by_operand}
-use Rattle.gw_operands.specs.Meaning.{ended_by, opening}
+use Rattle.gw_operands.specs.Meaning.{ended_by, opening_frame}
 use Rattle.gw_operands.specs.Outcome.{answer_within}
 use Rattle.gw_text_expressions.specs.declared.model.Expression.{Expression, Row_of-Expression, end_of-Expression, more_of-Expression}
 use Rattle.gw_text_expressions.specs.declared.model.Expression.TheVariants.{Whole, Name, Sna as Attribute, Parentheses', Call', Unary', Binary'}
@@ -50,7 +50,7 @@ if_there (Some v) = Some (Ok v)
 
 -- what a procedure comes to with these arguments, within as many instructions as it costs
 unfoldable pub outcome_with : Parts → Environment → ℕ → List ℤ → Came ℤ
-outcome_with p env q arguments = answer_within p env (at 0 (costs_of p) q) q (opening (procedure_at p q) arguments)
+outcome_with p env q arguments = answer_within p env (at 0 (costs_of p) q) q (opening_frame (procedure_at p q) arguments)
 
 -- the value of a source that isn't drawn
 abbrev pub source_value : Parts → Environment → Operand → Came ℤ

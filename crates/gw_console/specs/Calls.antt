@@ -6,7 +6,7 @@ use Rattle.gw_streams.specs.Streams.{Source, Sink}
 use Rattle.gw_answers.specs.declared.answer.Answer.{Answer}
 use Rattle.gw_console.specs.declared.fault.ProgramFault.{ProgramFault}
 use Rattle.gw_console.specs.declared.fault.ProgramFault.TheVariants.{Read, Write, Memory}
-use Rattle.gw_answers.specs.Status.{ended, refused, failed, no_memory}
+use Rattle.gw_answers.specs.Status.{end_status, refusal_status, failure_status, no_memory}
 
 -- known bytes lose their front of so many, or all where there are fewer
 abbrev pub LosesFront : ℕ → Option (List ℕ) → Option (List ℕ) → Type 0
@@ -27,23 +27,23 @@ TellsReads (Err Write) before after = ⊥
 abbrev pub wanted_status : Result Answer ProgramFault → ℕ
 wanted_status (Ok answer) = answer.status
 wanted_status (Err Memory) = no_memory
-wanted_status (Err Read) = failed
-wanted_status (Err Write) = failed
+wanted_status (Err Read) = failure_status
+wanted_status (Err Write) = failure_status
 
 -- the status is 3 where a call has failed, and else the wanted one
 abbrev pub EndsWith : ℕ → ℕ → Bool → Type 0
-EndsWith wanted result has_failed = result ≡ (if has_failed then failed else wanted)
+EndsWith wanted result has_failed = result ≡ (if has_failed then failure_status else wanted)
 
 -- What a status tells of the calls of a reader and of a writer, from how the two were, when no call had failed, to how they are: where all is read so, in at most so many bytes.
 pub record Account (AllRead : Option (List ℕ) → Option (List ℕ) → Type 0) (most : ℕ) (status : ℕ) (from to : Source) (old new : Sink) : Type 0 where
   -- it is 3 exactly where a call failed
-  pub failure : (status ≡ failed) ↔ IsTrue (to.failed || new.failed)
+  pub failure : (status ≡ failure_status) ↔ IsTrue (to.failed || new.failed)
   -- on any other status nothing that was written waits for a flush
-  pub flushed : status ≢ failed → new.waits ≡ false
+  pub flushed : status ≢ failure_status → new.waits ≡ false
   -- where a read failed nothing is written
   pub silent : to.failed ≡ true → Keeps old.held new.held
   -- on 0 and 1 all was read
-  pub whole : (status ≡ ended) ⊎ (status ≡ refused) → AllRead from.left to.left
+  pub whole : (status ≡ end_status) ⊎ (status ≡ refusal_status) → AllRead from.left to.left
   -- and on no status more than so many bytes
   pub limited : LosesAtMost most from.left to.left
 

@@ -4,7 +4,7 @@ use Rattle.std.specs.Io.KnownBytes.{Appends, Keeps}
 use Rattle.gw_console.specs.declared.fault.ProgramFault.{ProgramFault}
 use Rattle.gw_console.specs.declared.fault.ProgramFault.TheVariants.{Read, Write, Memory}
 use Rattle.gw_answers.specs.declared.answer.Answer.{Answer}
-use Rattle.gw_answers.specs.Status.{ended, refused, failed, no_memory}
+use Rattle.gw_answers.specs.Status.{end_status, refusal_status, failure_status, no_memory}
 use Rattle.gw_answers.specs.Requests.{Answering}
 
 -- the line on want of memory
@@ -17,7 +17,7 @@ AppendsFront old new text = (n : ℕ) × (n ≤ length text) × Appends old new 
 
 -- a text is written whole, and its status answered; or a write failed, a front of the text is written, and the status is 3
 abbrev pub Writes : List ℕ → ℕ → ℕ → Option (List ℕ) → Option (List ℕ) → Type 0
-Writes text status result old new = ((result ≡ status) × Appends old new text) ⊎ ((result ≡ failed) × AppendsFront old new text)
+Writes text status result old new = ((result ≡ status) × Appends old new text) ⊎ ((result ≡ failure_status) × AppendsFront old new text)
 
 -- a text is written whole; or a write failed, and a front of it is written
 abbrev pub WritesText : {A : Type 0} → List ℕ → Result A ProgramFault → Option (List ℕ) → Option (List ℕ) → Type 0
@@ -32,8 +32,8 @@ WritesSome text result old new =
 -- where memory ran out its line is written; where a read or a write failed nothing is
 abbrev pub Fails : ProgramFault → ℕ → Option (List ℕ) → Option (List ℕ) → Type 0
 Fails Memory result old new = Writes memory_line no_memory result old new
-Fails Read result old new = (result ≡ failed) × Keeps old new
-Fails Write result old new = (result ≡ failed) × Keeps old new
+Fails Read result old new = (result ≡ failure_status) × Keeps old new
+Fails Write result old new = (result ≡ failure_status) × Keeps old new
 
 -- an answer is written, or what is where there is none
 abbrev pub WritesOrFails : Result Answer ProgramFault → ℕ → Option (List ℕ) → Option (List ℕ) → Type 0
@@ -53,7 +53,7 @@ abbrev pub IsOutput : Answering → Option (List ℕ) → List ℕ → ℕ → T
 IsOutput Answers known text status =
     AnswersReader Answers known text status
     ⊎ (((text ≡ memory_line) × (status ≡ no_memory))
-    ⊎ ((text ≡ []) × (status ≡ failed)))
+    ⊎ ((text ≡ []) × (status ≡ failure_status)))
 
 -- a command writes its output
 abbrev pub Responds : Answering → Option (List ℕ) → ℕ → Option (List ℕ) → Option (List ℕ) → Type 0
@@ -66,9 +66,9 @@ WritesAnswer Answers known result old new = (text : List ℕ) × AnswersReader A
 -- what a command writes, by the status that it answers
 pub record Delivers (Answers : Answering) (known : Option (List ℕ)) (result : ℕ) (old new : Option (List ℕ)) : Type 0 where
   -- the answer, unless a read or a write failed, or memory ran out
-  pub answered : result ≢ failed → result ≢ no_memory → WritesAnswer Answers known result old new
+  pub answered : result ≢ failure_status → result ≢ no_memory → WritesAnswer Answers known result old new
   -- the line on want of memory
   pub memory : result ≡ no_memory → Appends old new memory_line
-  pub status : Contains (ended ∷ refused ∷ failed ∷ no_memory ∷ []) result
+  pub status : Contains (end_status ∷ refusal_status ∷ failure_status ∷ no_memory ∷ []) result
   -- whatever failed: what was to be written, and how much of it was
   pub output : Responds Answers known result old new

@@ -1,7 +1,7 @@
 //! Delivering an answer.
 
 ghost use Rattle.std.specs.Prelude.{◌≡◌, ◌≢◌, false, MatchResult};
-ghost use Rattle.gw_answers.specs.Status.{failed};
+ghost use Rattle.gw_answers.specs.Status.{failure_status};
 ghost use Rattle.gw_console.specs.Output.{Writes, WritesOrFails};
 ghost use Rattle.gw_console.specs.Calls.{wanted_status, EndsWith};
 
@@ -18,7 +18,7 @@ pub fn write_and_end<W: Write>(writer: &mut Output<W>, text: &[u8], status: u8) 
     requires { writer.old.failed ≡ false }
     ensures bytes { Writes text.now status result writer.old.held writer.new.held }
     ensures told { EndsWith status result writer.new.failed }
-    ensures flushed { result ≢ failed → writer.new.waits ≡ false }
+    ensures flushed { result ≢ failure_status → writer.new.waits ≡ false }
 {
     match write_text(writer, text) {
         Ok(()) => status,
@@ -31,7 +31,7 @@ pub fn deliver<W: Write>(writer: &mut Output<W>, answer: Result<Answer, ProgramF
     requires { writer.old.failed ≡ false }
     ensures bytes { WritesOrFails answer result writer.old.held writer.new.held }
     ensures told { EndsWith (wanted_status answer) result writer.new.failed }
-    ensures flushed { result ≢ failed → writer.new.waits ≡ false }
+    ensures flushed { result ≢ failure_status → writer.new.waits ≡ false }
 {
     match answer {
         Ok(Answer { text, status }) => write_and_end(writer, &text, status),

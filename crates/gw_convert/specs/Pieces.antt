@@ -4,13 +4,13 @@ use Rattle.std.specs.Str.Lines.{lines}
 use Rattle.gw_text_tokens.specs.Lines.{is_skipped}
 
 -- a line with what ends it
-abbrev pub ended : List ℕ → List ℕ
-ended line = line ++ (10 ∷ [])
+abbrev pub with_line_end : List ℕ → List ℕ
+with_line_end line = line ++ (10 ∷ [])
 
 -- a line becomes a piece, behind what there is: one line or more; a line that holds no statement is written byte for byte
 pub record AddsPiece (line old new : List ℕ) : Type 0 where
   pub piece : List ℕ
-  pub added : new ≡ old ++ ended piece
+  pub added : new ≡ old ++ with_line_end piece
   pub kept : is_skipped line ≡ true → piece ≡ line
 
 -- each of these lines becomes a piece, in order

@@ -2,7 +2,7 @@
 
 ghost use Rattle.std.specs.Prelude.{◌≡◌, ◌++◌, [], true, map, IfOk, OnOk};
 ghost use Rattle.gw_text_tokens.specs.Lines.{is_skipped as is_skipped_line};
-ghost use Rattle.gw_convert.specs.Pieces.{ended, AddsPiece, AddsPieces, IsConverted};
+ghost use Rattle.gw_convert.specs.Pieces.{with_line_end, AddsPiece, AddsPieces, IsConverted};
 
 use crate::changes::{Change, Changes, Replacement};
 use crate::declaring::put_steps;
@@ -365,7 +365,7 @@ fn follow_procedure(known: &mut Known, line: &[u8]) {
 
 /// A piece with the end of its last line, behind what there is.
 fn put_piece(out: &mut Vec<u8>, piece: &[u8]) -> Result<(), AllocError>
-    ensures { OnOk result (out.new.items ≡ out.old.items ++ ended piece.now) }
+    ensures { OnOk result (out.new.items ≡ out.old.items ++ with_line_end piece.now) }
 {
     out.extend_from_slice(piece)?;
     out.push(b'\n')?;

@@ -6,8 +6,8 @@ use Rattle.std.specs.Option.{unwrap_or}
 use Rattle.gw_drawing.specs.Steps.{Steps}
 
 -- what a part of a whole is of a length
-abbrev pub scaled : ℕ → ℕ → ℕ → ℕ
-scaled length part whole = length * part / whole
+abbrev pub part_of_length : ℕ → ℕ → ℕ → ℕ
+part_of_length length part whole = length * part / whole
 
 -- the greatest of the first n of these, and at least 1
 unfoldable pub greatest : (ℕ → ℕ) → ℕ → ℕ

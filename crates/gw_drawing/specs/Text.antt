@@ -17,9 +17,9 @@ escaped_byte b =
     else b ∷ []
 
 -- a text as it stands in XML
-unfoldable pub escaped : List ℕ → List ℕ
-escaped [] = []
-escaped (b ∷ bs) = escaped_byte b ++ escaped bs
+unfoldable pub xml_text : List ℕ → List ℕ
+xml_text [] = []
+xml_text (b ∷ bs) = escaped_byte b ++ xml_text bs
 
 -- tenths, with a point before the last digit
 abbrev pub tenths : ℕ → List ℕ
@@ -30,13 +30,13 @@ abbrev pub digit : ℕ → ℕ → List ℕ
 digit d left = d ∷ (if nat_lt 0 left && (left % 3 == 0) then codes "," else [])
 
 -- digits, with a comma before each three of them
-unfoldable pub grouped : List ℕ → List ℕ
-grouped [] = []
-grouped (d ∷ ds) = digit d (length ds) ++ grouped ds
+unfoldable pub digits_in_threes : List ℕ → List ℕ
+digits_in_threes [] = []
+digits_in_threes (d ∷ ds) = digit d (length ds) ++ digits_in_threes ds
 
 -- a number, with a comma before each three of its digits
 abbrev pub signed_grouped : ℤ → List ℕ
-signed_grouped number = (if int_lt number (pos 0) then codes "-" else codes "") ++ grouped (decimal (unsigned_abs number))
+signed_grouped number = (if int_lt number (pos 0) then codes "-" else codes "") ++ digits_in_threes (decimal (unsigned_abs number))
 
 -- where a text begins, and how it lies there
 abbrev pub text_at : ℕ → ℕ → List ℕ → List ℕ
@@ -44,4 +44,4 @@ text_at x y how = codes "<text x=\"" ++ tenths x ++ codes "\" y=\"" ++ tenths y 
 
 -- a number as a text
 abbrev pub label : ℕ → ℕ → List ℕ → ℕ → List ℕ
-label x y how number = text_at x y how ++ grouped (decimal number) ++ codes "</text>\n"
+label x y how number = text_at x y how ++ digits_in_threes (decimal number) ++ codes "</text>\n"

@@ -10,7 +10,7 @@ use crate::scale::Scale;
 pub fn scaled(length: u64, part: u64, whole: u128) -> u64
     requires part { part ≤ whole }
     requires whole { 0 < whole }
-    ensures value { result ≡ model.scaled length part whole }
+    ensures value { result ≡ model.part_of_length length part whole }
     ensures most { result ≤ length }
 {
     (length as u128 * part as u128 / whole) as u64

@@ -40,9 +40,9 @@ fn put_escaped_byte(out: &mut Vec<u8>, byte: u8) -> Result<(), Memory>
 }
 
 /// A text as it stands in XML.
-#[tactic(auto, unfolding(crate::specs::Text::escaped))]
+#[tactic(auto, unfolding(crate::specs::Text::xml_text))]
 pub fn put_escaped(out: &mut Vec<u8>, text: &[u8]) -> Result<(), Memory>
-    ensures { OnOk result (out.new.items ≡ out.old.items ++ model.escaped text.now) }
+    ensures { OnOk result (out.new.items ≡ out.old.items ++ model.xml_text text.now) }
 {
     for i in 0..text.len() {
         put_escaped_byte(out, text[i])?;
@@ -70,9 +70,9 @@ fn put_digit(out: &mut Vec<u8>, digit: u8, left: usize) -> Result<(), Memory>
 }
 
 /// Digits, with a comma before each three of them.
-#[tactic(auto, unfolding(crate::specs::Text::grouped))]
+#[tactic(auto, unfolding(crate::specs::Text::digits_in_threes))]
 fn put_digits(out: &mut Vec<u8>, digits: &[u8]) -> Result<(), Memory>
-    ensures { OnOk result (out.new.items ≡ out.old.items ++ model.grouped digits.now) }
+    ensures { OnOk result (out.new.items ≡ out.old.items ++ model.digits_in_threes digits.now) }
 {
     for i in 0..digits.len() {
         put_digit(out, digits[i], digits.len() - 1 - i)?;
@@ -82,7 +82,7 @@ fn put_digits(out: &mut Vec<u8>, digits: &[u8]) -> Result<(), Memory>
 
 /// A number, with a comma before each three of its digits.
 pub fn put_grouped(out: &mut Vec<u8>, number: u128) -> Result<(), Memory>
-    ensures { OnOk result (out.new.items ≡ out.old.items ++ model.grouped (decimal number)) }
+    ensures { OnOk result (out.new.items ≡ out.old.items ++ model.digits_in_threes (decimal number)) }
 {
     let mut buffer = Buffer::new();
     put_digits(out, buffer.format(number).as_bytes())

@@ -34,7 +34,7 @@ impl Contents {
     pub(crate) fn add(&mut self, n: u32)
         requires content { self.old.content + n ≤ 2 ^ 62 }
         requires entries { self.old.entries + n ≤ 2 ^ 62 }
-        ensures value { self.new ≡ model.added n self.old }
+        ensures value { self.new ≡ model.add_units n self.old }
         ensures fits { FitsWithMore n self.old self.new }
     {
         let n = u64::from(n);
@@ -46,7 +46,7 @@ impl Contents {
     /// Takes `n` units out.
     pub(crate) fn take(&mut self, n: u32)
         requires { n ≤ self.old.content }
-        ensures value { self.new ≡ model.taken n self.old }
+        ensures value { self.new ≡ model.take_units n self.old }
         ensures fits { (most : ℕ) → StaysFit (ContentsFit most) self.old self.new }
     {
         self.content -= u64::from(n);

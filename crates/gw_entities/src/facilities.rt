@@ -36,7 +36,7 @@ impl Facility {
     fn seize(&mut self, xn: u64) -> bool
         requires few { self.old.entries < 2 ^ 62 }
         requires other { model.is_owned_by xn self.old ≡ false }
-        ensures value { model.seizing xn self.old ≡ Some (result, self.new) }
+        ensures value { model.seizure_by xn self.old ≡ Some (result, self.new) }
         ensures busy { result ≡ false → self.new ≡ self.old }
         ensures fits { StaysFit FacilityFits self.old self.new }
     {
@@ -50,7 +50,7 @@ impl Facility {
 
     /// Its owner gives it up.
     fn release(&mut self)
-        ensures value { self.new ≡ model.released self.old }
+        ensures value { self.new ≡ model.without_owner self.old }
         ensures fits { StaysFit FacilityFits self.old self.new }
     {
         self.owner = None;
@@ -96,7 +96,7 @@ impl Numbered<Facility> {
         requires there { f < length self.old.values }
         requires few { (facility_at f self.old).entries < 2 ^ 62 }
         requires other { model.is_owned_by xn (facility_at f self.old) ≡ false }
-        ensures value { model.seizing xn (facility_at f self.old)
+        ensures value { model.seizure_by xn (facility_at f self.old)
             ≡ Some (result, facility_at f self.new) }
         ensures others { OthersStay model.idle f self.old self.new }
         ensures busy { result ≡ false → self.new ≡ self.old }
@@ -114,7 +114,7 @@ impl Numbered<Facility> {
     pub fn release(&mut self, f: u16, xn: u64)
         requires there { f < length self.old.values }
         requires owner { model.is_owned_by xn (facility_at f self.old) ≡ true }
-        ensures value { model.releasing xn (facility_at f self.old)
+        ensures value { model.release_by xn (facility_at f self.old)
             ≡ Some (facility_at f self.new) }
         ensures others { OthersStay model.idle f self.old self.new }
         ensures count { length self.new.values ≡ length self.old.values }

@@ -18,7 +18,7 @@ use gw_object::Kind;
 /// Lets `n` units join.
 fn join(queue: &mut Contents, n: u32)
     requires few { CanTake n queue.old }
-    ensures value { queue.new ≡ model.joined n queue.old }
+    ensures value { queue.new ≡ model.with_arrivals n queue.old }
     ensures fits { StaysFit QueueFits queue.old queue.new }
 {
     queue.add(n);
@@ -27,7 +27,7 @@ fn join(queue: &mut Contents, n: u32)
 /// Lets `n` units depart.
 fn depart(queue: &mut Contents, n: u32)
     requires { n ≤ queue.old.content }
-    ensures value { model.departing n queue.old ≡ Some queue.new }
+    ensures value { model.departure_of n queue.old ≡ Some queue.new }
     ensures fits { StaysFit QueueFits queue.old queue.new }
 {
     queue.take(n);
@@ -66,7 +66,7 @@ impl Numbered<Contents> {
     pub fn join_queue(&mut self, q: u16, n: u32)
         requires there { q < length self.old.values }
         requires few { CanTake n (queue_at q self.old) }
-        ensures value { queue_at q self.new ≡ model.joined n (queue_at q self.old) }
+        ensures value { queue_at q self.new ≡ model.with_arrivals n (queue_at q self.old) }
         ensures others { OthersStay contents.empty q self.old self.new }
         ensures count { length self.new.values ≡ length self.old.values }
     {
@@ -80,7 +80,7 @@ impl Numbered<Contents> {
     pub fn depart(&mut self, q: u16, n: u32)
         requires there { q < length self.old.values }
         requires inside { n ≤ (queue_at q self.old).content }
-        ensures value { model.departing n (queue_at q self.old) ≡ Some (queue_at q self.new) }
+        ensures value { model.departure_of n (queue_at q self.old) ≡ Some (queue_at q self.new) }
         ensures others { OthersStay contents.empty q self.old self.new }
         ensures count { length self.new.values ≡ length self.old.values }
     {

@@ -37,7 +37,7 @@ impl Storage {
         requires fits { (passed : ℕ) × StorageFits passed self.old }
         requires few { self.old.contents.entries + n ≤ 2 ^ 62 }
         requires whole { n ≤ self.old.capacity }
-        ensures value { model.entering n self.old ≡ Some (result, self.new) }
+        ensures value { model.entry_of n self.old ≡ Some (result, self.new) }
         ensures full { result ≡ false → self.new ≡ self.old }
         ensures fits { StaysFit StorageFits self.old self.new }
     {
@@ -51,7 +51,7 @@ impl Storage {
     /// Lets `n` units leave.
     fn leave(&mut self, n: u32)
         requires { n ≤ self.old.contents.content }
-        ensures value { model.leaving n self.old ≡ Some self.new }
+        ensures value { model.exit_of n self.old ≡ Some self.new }
         ensures fits { StaysFit StorageFits self.old self.new }
     {
         self.contents.take(n);
@@ -98,7 +98,7 @@ impl Numbered<Storage> {
         requires there { s < length self.old.values }
         requires few { (storage_at s self.old).contents.entries + n ≤ 2 ^ 62 }
         requires whole { n ≤ (storage_at s self.old).capacity }
-        ensures value { model.entering n (storage_at s self.old)
+        ensures value { model.entry_of n (storage_at s self.old)
             ≡ Some (result, storage_at s self.new) }
         ensures others { OthersStay (model.vacant 0) s self.old self.new }
         ensures full { result ≡ false → self.new ≡ self.old }
@@ -115,7 +115,7 @@ impl Numbered<Storage> {
     pub fn leave(&mut self, s: u16, n: u32)
         requires there { s < length self.old.values }
         requires inside { n ≤ (storage_at s self.old).contents.content }
-        ensures value { model.leaving n (storage_at s self.old) ≡ Some (storage_at s self.new) }
+        ensures value { model.exit_of n (storage_at s self.old) ≡ Some (storage_at s self.new) }
         ensures others { OthersStay (model.vacant 0) s self.old self.new }
         ensures count { length self.new.values ≡ length self.old.values }
     {

@@ -139,7 +139,7 @@ impl Tabulation {
     /// Enters a value: `Number` where an `i64` can't hold the sum, and nothing changes.
     fn enter(&mut self, value: i64) -> Result<(), NumFault>
         requires { self.old.count < 2 ^ 62 }
-        ensures value { left_by result self.new ≡ model.tabulating value self.old }
+        ensures value { left_by result self.new ≡ model.tabulation_of value self.old }
         ensures refused { OnErr result (self.new ≡ self.old) }
     {
         let sum = add(self.sum, value)?;
@@ -194,7 +194,7 @@ impl Tables {
         requires there { t < length self.old }
         requires few { (table_at t self.old).count < 2 ^ 62 }
         ensures value { left_by result (table_at t self.new)
-            ≡ model.tabulating value (table_at t self.old) }
+            ≡ model.tabulation_of value (table_at t self.old) }
         ensures others { self.new ≡ set_table t (table_at t self.new) self.old }
         ensures refused { OnErr result (self.new ≡ self.old) }
         ensures count { length self.new ≡ length self.old }

@@ -10,7 +10,7 @@ use Rattle.gw_text.specs.declared.model.Model.{Model}
 use Rattle.gw_text.specs.declared.model.Statement.{Statement}
 use Rattle.gw_assemble.specs.Assembly.{Assembles, IsRefusal}
 use Rattle.gw_answers.specs.declared.answer.Answer.{Answer}
-use Rattle.gw_answers.specs.Status.{ended, refused}
+use Rattle.gw_answers.specs.Status.{end_status, refusal_status}
 use Rattle.gw_answers.specs.Answer.{accepted_line, object_of}
 use Rattle.gw_answers.specs.Assembly.{HasStatements, IsRefusedText}
 use Rattle.gw_answers.specs.Refusal.{refusal_line}
@@ -57,14 +57,14 @@ ExplainsModel ss text = (object : Parts) × Assembles ss object × Accepted obje
 -- what the statements of a text come to
 abbrev pub IsExplainedModel : List ℕ → List Statement → List ℕ → ℕ → Type 0
 IsExplainedModel bytes ss text status =
-    ((status ≡ ended) × ExplainsModel ss text)
-    ⊎ ((status ≡ refused) × ((fault : Fault) × IsRefusal ss fault × ExplainsRefusal bytes (sites_of ss) fault text))
+    ((status ≡ end_status) × ExplainsModel ss text)
+    ⊎ ((status ≡ refusal_status) × ((fault : Fault) × IsRefusal ss fault × ExplainsRefusal bytes (sites_of ss) fault text))
 
 -- of a text: of a model that reading it may answer, or of the text's refusal
 abbrev pub IsExplainedText : List ℕ → List ℕ → ℕ → Type 0
 IsExplainedText bytes text status =
     ((ss : List Statement) × HasStatements bytes ss × IsExplainedModel bytes ss text status)
-    ⊎ ((status ≡ refused) × ((fault : Fault) × IsRefusedText bytes fault × ExplainsRefusal bytes no_sites fault text))
+    ⊎ ((status ≡ refusal_status) × ((fault : Fault) × IsRefusedText bytes fault × ExplainsRefusal bytes no_sites fault text))
 
 -- OBJECTS
 
@@ -72,8 +72,8 @@ IsExplainedText bytes text status =
 abbrev pub IsExplainedObject : List ℕ → List ℕ → ℕ → Type 0
 IsExplainedObject bytes text status =
     MatchResult (object_of bytes)
-    (λ object. (status ≡ ended) × Begins (accepted_line object) text)
-    (λ fault. (status ≡ refused) × IsAdvised (refusal_line fault) fault.code text)
+    (λ object. (status ≡ end_status) × Begins (accepted_line object) text)
+    (λ fault. (status ≡ refusal_status) × IsAdvised (refusal_line fault) fault.code text)
 
 -- the text and the status for these bytes
 abbrev pub IsExplained : List ℕ → List ℕ → ℕ → Type 0

@@ -1,7 +1,7 @@
 //! The explanation of a model text, or of an object.
 
 ghost use Rattle.std.specs.Prelude.{◌≡◌, IfOk, OnOk};
-ghost use Rattle.gw_answers.specs.Status.{ended as ended_status, refused as refused_status};
+ghost use Rattle.gw_answers.specs.Status.{end_status as ended_status, refusal_status};
 ghost use Rattle.gw_answers.specs.Answer.{accepted_line};
 ghost use Rattle.gw_sources.specs.Sites.{no_sites, sites_told};
 ghost use Rattle.gw_explain.specs.Explanation.{AddsFault, Begins, ExplainsModelRefusal, ExplainsRefusal};
@@ -55,7 +55,7 @@ fn refusal_of(
 ) -> Result<Answer, Memory>
     ensures text { IfOk result (λ a.
         ExplainsRefusal text.now (sites_told sources.now) fault a.text.items) }
-    ensures status { IfOk result (λ a. a.status ≡ refused_status) }
+    ensures status { IfOk result (λ a. a.status ≡ refusal_status) }
 {
     if fault.code == codes::MEMORY {
         return Err(Memory);
@@ -85,7 +85,7 @@ fn known_of(
 /// The explanation of a refusal of a model text that was read.
 fn refusal_in(alloc: Global, text: &[u8], model: &Model, fault: Fault) -> Result<Answer, Memory>
     ensures text { IfOk result (ExplainsModelRefusal text.now model.now fault) }
-    ensures status { IfOk result (λ a. a.status ≡ refused_status) }
+    ensures status { IfOk result (λ a. a.status ≡ refusal_status) }
 {
     let sources = sources(alloc, model)?;
     let known = known_of(alloc, text, model, &sources, fault)?;
@@ -135,7 +135,7 @@ fn explain_model(alloc: Global, text: &[u8], model: &Model) -> Result<Answer, Me
 /// The explanation of a model text that can't be read.
 fn explain_unread(alloc: Global, text: &[u8], fault: Fault) -> Result<Answer, Memory>
     ensures text { IfOk result (λ a. ExplainsRefusal text.now no_sites fault a.text.items) }
-    ensures status { IfOk result (λ a. a.status ≡ refused_status) }
+    ensures status { IfOk result (λ a. a.status ≡ refusal_status) }
 {
     refusal_of(alloc, text, &[], &Sources::none(alloc), fault)
 }

@@ -2,7 +2,7 @@
 
 ghost use Rattle.std.specs.Prelude.{◌≡◌, ◌≤◌, length, drop, IfOk, OnOk};
 ghost use Rattle.gw_report.specs.Report.{Puts};
-ghost use Rattle.gw_answers.specs.Status.{ended};
+ghost use Rattle.gw_answers.specs.Status.{end_status};
 ghost use Rattle.gw_explain.specs.Codes.{lines_of_words, advice_lines};
 ghost use Rattle.gw_explain.specs.Explanation.{IsAdvised};
 ghost use Rattle.gw_explain.specs.Meaning.{code_line, meaning};
@@ -66,7 +66,7 @@ fn put_code(alloc: Global, out: &mut Vec<u8>, code: u16) -> Result<(), Memory>
 /// What the code of a refusal means, and how to mend what it says: a line with the code and its name, one for what is wrong, and
 /// one for how to mend it. Of a number that is no code there is the first line alone. `Err` where memory runs out.
 pub fn explain_code(alloc: Global, code: u16) -> Result<Answer, Memory>
-    ensures { IfOk result (λ a. (a.text.items ≡ meaning code) × (a.status ≡ ended)) }
+    ensures { IfOk result (λ a. (a.text.items ≡ meaning code) × (a.status ≡ end_status)) }
 {
     let mut text = Vec::new(alloc);
     put_code(alloc, &mut text, code)?;

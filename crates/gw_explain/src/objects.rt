@@ -1,7 +1,7 @@
 //! The explanation of an object.
 
 ghost use Rattle.std.specs.Prelude.{◌≡◌, IfOk, OnOk};
-ghost use Rattle.gw_answers.specs.Status.{ended as ended_status, refused as refused_status};
+ghost use Rattle.gw_answers.specs.Status.{end_status as ended_status, refusal_status};
 ghost use Rattle.gw_answers.specs.Answer.{accepted_line};
 ghost use Rattle.gw_answers.specs.Refusal.{refusal_line};
 ghost use Rattle.gw_explain.specs.Explanation.{Begins, IsAdvised, IsExplainedObject};
@@ -38,7 +38,7 @@ fn acceptance_of(alloc: Global, verified: &Verified) -> Result<Answer, Memory>
 #[tactic(auto, using(crate::proofs::Beginning::advised_with))]
 fn refusal_of(alloc: Global, input: &[u8], fault: Fault) -> Result<Answer, Memory>
     ensures text { IfOk result (λ a. IsAdvised (refusal_line fault) fault.code a.text.items) }
-    ensures status { IfOk result (λ a. a.status ≡ refused_status) }
+    ensures status { IfOk result (λ a. a.status ≡ refusal_status) }
 {
     let mut answer = refused(alloc, Refusal(fault))?;
     let known = known_in_object(alloc, input, fault)?;

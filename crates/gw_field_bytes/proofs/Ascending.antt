@@ -12,7 +12,7 @@ use Rattle.std.proofs.lemmas.List.{append-nil, length-append}
 use Rattle.std.proofs.lemmas.List.Quantifiers.{all_pairs_push}
 use Rattle.std.proofs.lemmas.Option.{slice_get-get_or}
 use Rattle.gw_fields.specs.Codes as codes
-use Rattle.gw_fields.specs.Fields.{Field, tested, both, is_above, ascending, ElementsFit}
+use Rattle.gw_fields.specs.Fields.{Field, field_with_test, both, is_above, ascending_element, ElementsFit}
 use Rattle.gw_field_bytes.proofs.Exact.{IsExact, IsExactElement, made_exact, tested_exact, both_exact}
 
 -- ---- orders of keys
@@ -37,10 +37,10 @@ abbrev last_key : {K A : Type 0} → (A → K) → List A → Option K
 last_key key front = option_map key (slice_get front (length front - 1))
 
 pub ascending_exact : {K A B : Type 0} (is_below : K → K → Bool) (make : K × B → A) (back : A → K × B) (key : Field K) (f : Field B) → ((x : K × B) → back (make x) ≡ x) → ((y : A) → make (back y) ≡ y) → IsExact key → IsExact f
-    → IsExactElement (ascending is_below make back key f)
+    → IsExactElement (ascending_element is_below make back key f)
 ascending_exact {K} {A} is_below make back key f there here key_exact exact =
     let test = λ (front : List A). is_above is_below (last_key (λ x. (back x).0) front) in
-    let at = λ (front : List A). made_exact make back (both (tested (test front) codes.not_canonical key) f) (λ x h. there x) (λ y h. here y) (both_exact _ _ (tested_exact (test front) codes.not_canonical key key_exact) exact) in
+    let at = λ (front : List A). made_exact make back (both (field_with_test (test front) codes.not_canonical key) f) (λ x h. there x) (λ y h. here y) (both_exact _ _ (tested_exact (test front) codes.not_canonical key key_exact) exact) in
     record { takes = λ front left. (at front).takes; again = λ front left. (at front).again; within = λ front left. (at front).within; cut = λ front left. (at front).cut }
 
 module _ {K : Type 0} {is_below : K → K → Bool} {Below : K → K → Type 0} (order : IsOrder is_below Below) where
@@ -86,13 +86,13 @@ module _ {K : Type 0} {is_below : K → K → Bool} {Below : K → K → Type 0}
     AreAscending a b = Below (back a).0 (back b).0
 
     -- what fits a list of ascending elements ascends
-    pub ascends : (xs front : List A) → AllPairs AreAscending front → ElementsFit (ascending is_below make back key f).Fits front xs → AllPairs AreAscending (front ++ xs)
+    pub ascends : (xs front : List A) → AllPairs AreAscending front → ElementsFit (ascending_element is_below make back key f).Fits front xs → AllPairs AreAscending (front ++ xs)
     ascends [] front up h = rw (append-nil front) up
     ascends (x ∷ xs) front up h =
         subst (AllPairs AreAscending) (append_assoc front (x ∷ []) xs) (ascends xs (front ++ x ∷ []) (all_pairs_push AreAscending front x up (above_all (λ a. (back a).0) front (back x).0 up h.0.0.1)) h.1)
 
     -- elements that fit and ascend fit their list
-    pub ascending_fit : (xs front : List A) → All (λ x. key.Fits (back x).0) xs → All (λ x. f.Fits (back x).1) xs → AllPairs AreAscending (front ++ xs) → ElementsFit (ascending is_below make back key f).Fits front xs
+    pub ascending_fit : (xs front : List A) → All (λ x. key.Fits (back x).0) xs → All (λ x. f.Fits (back x).1) xs → AllPairs AreAscending (front ++ xs) → ElementsFit (ascending_element is_below make back key f).Fits front xs
     ascending_fit [] front keys others up = tt
     ascending_fit (x ∷ xs) front keys others up =
         let whole = front ++ x ∷ xs in

@@ -12,7 +12,7 @@ use Rattle.std.proofs.lemmas.List.Concat.{flat_map-cons}
 use Rattle.std.proofs.lemmas.Nat.{be_bytes_2, be_bytes_4, be_bytes_8, from_be_bytes-to_be_bytes_2, from_be_bytes-to_be_bytes_4, from_be_bytes-to_be_bytes_8}
 use Rattle.gw_fields.specs.Codes as codes
 use Rattle.gw_fields.specs.declared.error.Bad.{Bad}
-use Rattle.gw_fields.specs.Fields.{◌>>=◌, Read, IsProperFront, Field, bad, byte, byte_read, number, signed, read_as, as_type, tested, and_then, both, fitting, constant, is_within, ranged, nothing, optional, Form, behind, form_read, by_tag, count, count_spelling, count_read, long_count_read, Element, plain, last_tested, elements_read, ElementsFit, elements, listed, list_read}
+use Rattle.gw_fields.specs.Fields.{◌>>=◌, Read, IsProperFront, Field, bad, byte, byte_read, number, signed_number, read_as, as_type, field_with_test, and_then, both, field_that_fits, constant, is_within, number_between, nothing, optional, Form, behind, form_read, by_tag, count, count_spelling, count_read, long_count_read, Element, plain, last_tested, elements_read, ElementsFit, elements, list_of, list_read}
 
 -- ---- bytes
 
@@ -83,7 +83,7 @@ not_both x d e = absurd cc
 
 -- the bytes are truncated
 abbrev pub IsCut : {A : Type 0} → Result A Bad → Type 0
-IsCut r = IsErrAnd r (λ e. e.code ≡ codes.truncated)
+IsCut r = IsErrAnd r (λ e. e.code ≡ codes.truncation)
 
 -- to this reader each proper front of the text is truncated
 abbrev pub CutsFronts : {A : Type 0} → (List ℕ → Result A Bad) → List ℕ → Type 0
@@ -147,7 +147,7 @@ byte_takes (b ∷ rest) x fits e =
     subst (λ (y : ℕ × List ℕ). Takes (b ∷ rest) (y.0 ∷ []) y.1 × (y.0 < 256)) (ok_is (b, rest) x e) (record { parts = refl; rest_fits = IsBytes-rest b rest fits }, fits 0)
 
 byte_within : (bytes : List ℕ) (e : Bad) → IsBytes bytes → byte_read bytes ≡ Err e → e.left ≤ length bytes
-byte_within [] e fits h = rw (← err_is (bad codes.truncated []) e h) (omega arith)
+byte_within [] e fits h = rw (← err_is (bad codes.truncation []) e h) (omega arith)
 byte_within (b ∷ rest) e fits h = absurd cc
 
 byte_cut : (n : ℕ) → n < 256 → CutsFronts byte_read (n ∷ [])
@@ -193,8 +193,8 @@ number_takes : (w : Width) → IsWide w → (bytes : List ℕ) (x : ℕ × List 
 number_takes w wide bytes x fits e =
     let front = take (byte_len w) bytes in
     let front_fits = IsBytes-take (byte_len w) bytes fits in
-    elim (chosen (ltb (length bytes) (byte_len w)) (Err (bad codes.truncated bytes)) (Ok (from_be_bytes w front, drop (byte_len w) bytes)) (Ok x) e) [
-      | inl cut ↦ not_both x (bad codes.truncated bytes) (sym cut.1)
+    elim (chosen (ltb (length bytes) (byte_len w)) (Err (bad codes.truncation bytes)) (Ok (from_be_bytes w front, drop (byte_len w) bytes)) (Ok x) e) [
+      | inl cut ↦ not_both x (bad codes.truncation bytes) (sym cut.1)
       | inr long ↦
           let enough : byte_len w ≤ length bytes = ltb-false _ _ long.0 in
           let same : to_be_bytes w (from_be_bytes w front) ≡ front = wide.back front (omega (arith, length-take (byte_len w) bytes)) front_fits in
@@ -210,8 +210,8 @@ number_again w wide n rest lt =
 
 number_within : (w : Width) (bytes : List ℕ) (e : Bad) → IsBytes bytes → (number w).read bytes ≡ Err e → e.left ≤ length bytes
 number_within w bytes e fits h =
-    elim (chosen (ltb (length bytes) (byte_len w)) (Err (bad codes.truncated bytes)) (Ok (from_be_bytes w (take (byte_len w) bytes), drop (byte_len w) bytes)) (Err e) h) [
-      | inl cut ↦ rw (← err_is (bad codes.truncated bytes) e cut.1) (omega arith)
+    elim (chosen (ltb (length bytes) (byte_len w)) (Err (bad codes.truncation bytes)) (Ok (from_be_bytes w (take (byte_len w) bytes), drop (byte_len w) bytes)) (Err e) h) [
+      | inl cut ↦ rw (← err_is (bad codes.truncation bytes) e cut.1) (omega arith)
       | inr long ↦ not_both (from_be_bytes w (take (byte_len w) bytes), drop (byte_len w) bytes) e long.1
     ]
 
@@ -228,27 +228,27 @@ number_cut w wide n front begins =
 pub number_exact : (w : Width) → IsWide w → IsExact (number w)
 number_exact w wide = record { takes = number_takes w wide; again = number_again w wide; within = number_within w; cut = λ n fits. number_cut w wide n }
 
-signed_takes : (w : Width) → IsWide w → (bytes : List ℕ) (x : ℤ × List ℕ) → IsBytes bytes → (signed w).read bytes ≡ Ok x → Takes bytes (to_be_bytes w (cast_unsigned w x.0)) x.1 × FitsSigned w x.0
+signed_takes : (w : Width) → IsWide w → (bytes : List ℕ) (x : ℤ × List ℕ) → IsBytes bytes → (signed_number w).read bytes ≡ Ok x → Takes bytes (to_be_bytes w (cast_unsigned w x.0)) x.1 × FitsSigned w x.0
 signed_takes w wide bytes x fits e =
     let a = bind_ok ((number w).read bytes) (λ n. Ok (cast_signed w n.0, n.1)) x e in
     let p = number_takes w wide bytes a.0 fits a.1 in
     subst (λ (y : ℤ × List ℕ). Takes bytes (to_be_bytes w (cast_unsigned w y.0)) y.1 × FitsSigned w y.0) (ok_is (cast_signed w a.0.0, a.0.1) x a.2)
     (rw (wide.signed_back a.0.0 p.1) p.0, wide.signed_fits a.0.0 p.1)
 
-signed_again : (w : Width) → IsWide w → (z : ℤ) (rest : List ℕ) → FitsSigned w z → (signed w).read (to_be_bytes w (cast_unsigned w z) ++ rest) ≡ Ok (z, rest)
+signed_again : (w : Width) → IsWide w → (z : ℤ) (rest : List ℕ) → FitsSigned w z → (signed_number w).read (to_be_bytes w (cast_unsigned w z) ++ rest) ≡ Ok (z, rest)
 signed_again w wide z rest fits = rw (number_again w wide (cast_unsigned w z) rest (wide.bits_fit z fits), to_z-of_z w z fits) refl
 
-signed_within : (w : Width) (bytes : List ℕ) (e : Bad) → IsBytes bytes → (signed w).read bytes ≡ Err e → e.left ≤ length bytes
+signed_within : (w : Width) (bytes : List ℕ) (e : Bad) → IsBytes bytes → (signed_number w).read bytes ≡ Err e → e.left ≤ length bytes
 signed_within w bytes e fits h =
     elim (bind_err ((number w).read bytes) (λ n. Ok (cast_signed w n.0, n.1)) e h) [
       | inl first ↦ number_within w bytes e fits first
       | inr second ↦ not_both (cast_signed w second.0.0, second.0.1) e second.2
     ]
 
-signed_cut : (w : Width) → IsWide w → (z : ℤ) → FitsSigned w z → CutsFronts (signed w).read (to_be_bytes w (cast_unsigned w z))
+signed_cut : (w : Width) → IsWide w → (z : ℤ) → FitsSigned w z → CutsFronts (signed_number w).read (to_be_bytes w (cast_unsigned w z))
 signed_cut w wide z fits = cuts_still (number w).read (λ bytes n. Ok (cast_signed w n.0, n.1)) (to_be_bytes w (cast_unsigned w z)) (number_cut w wide (cast_unsigned w z))
 
-pub signed_exact : (w : Width) → IsWide w → IsExact (signed w)
+pub signed_exact : (w : Width) → IsWide w → IsExact (signed_number w)
 signed_exact w wide = record { takes = signed_takes w wide; again = signed_again w wide; within = signed_within w; cut = signed_cut w wide }
 
 -- ---- fields made of others
@@ -269,7 +269,7 @@ made_exact {A} {B} make back f there here exact = record {
   cut = λ y fits. cuts_still f.read (λ bytes x. Ok (make x.0, x.1)) (f.spell (back y)) (exact.cut (back y) fits);
 }
 
-pub tested_exact : {A : Type 0} (test : A → Bool) (code : ℕ) (f : Field A) → IsExact f → IsExact (tested test code f)
+pub tested_exact : {A : Type 0} (test : A → Bool) (code : ℕ) (f : Field A) → IsExact f → IsExact (field_with_test test code f)
 tested_exact {A} test code f exact = record {
   takes = λ bytes x fits e.
       let a = bind_ok (f.read bytes) (λ x. cond (test x.0) (Ok x) (Err (bad code bytes))) x e in
@@ -322,7 +322,7 @@ and_then_exact {A} {B} f g one two = record {
 pub both_exact : {A B : Type 0} (f : Field A) (g : Field B) → IsExact f → IsExact g → IsExact (both f g)
 both_exact f g one two = and_then_exact f (λ _. g) one (λ _. two)
 
-pub fitting_exact : {A : Type 0} (Fits : A → Type 0) (f : Field A) → ((x : A) → f.Fits x → Fits x) → ((x : A) → Fits x → f.Fits x) → IsExact f → IsExact (fitting Fits f)
+pub fitting_exact : {A : Type 0} (Fits : A → Type 0) (f : Field A) → ((x : A) → f.Fits x → Fits x) → ((x : A) → Fits x → f.Fits x) → IsExact f → IsExact (field_that_fits Fits f)
 fitting_exact Fits f here there exact = record {
   takes = λ bytes x fits e. let p = exact.takes bytes x fits e in (p.0, here x.0 p.1);
   again = λ x rest fits. exact.again x rest (there x fits);
@@ -333,8 +333,8 @@ fitting_exact Fits f here there exact = record {
 pub constant_exact : (value code : ℕ) (f : Field ℕ) → f.Fits value → IsExact f → IsExact (constant value code f)
 constant_exact value code f fits exact =
     let test = λ (n : ℕ). eqb n value in
-    fitting_exact (λ _. Unit {0}) (as_type (λ _. tt) (λ _. value) (tested test code f)) (λ x h. tt) (λ x h. (fits, eq-eqb value value refl))
-    (made_exact (λ _. tt) (λ _. value) (tested test code f) (λ x h. sym (eqb-true x value h.1)) (λ y h. refl) (tested_exact test code f exact))
+    fitting_exact (λ _. Unit {0}) (as_type (λ _. tt) (λ _. value) (field_with_test test code f)) (λ x h. tt) (λ x h. (fits, eq-eqb value value refl))
+    (made_exact (λ _. tt) (λ _. value) (field_with_test test code f) (λ x h. sym (eqb-true x value h.1)) (λ y h. refl) (tested_exact test code f exact))
 
 and_true : (a b : Bool) → (a && b) ≡ true → (a ≡ true) × (b ≡ true)
 and_true true b e = (refl, e)
@@ -346,9 +346,9 @@ within_tells least most n e = let both = and_true (leb least n) (leb n most) e i
 is_within-true : (least most n : ℕ) → (least ≤ n) × (n ≤ most) → is_within least most n ≡ true
 is_within-true least most n h = rw (le-leb least n h.0, le-leb n most h.1) refl
 
-pub ranged_exact : (least most : ℕ) (f : Field ℕ) → ((n : ℕ) → n ≤ most → f.Fits n) → IsExact f → IsExact (ranged least most f)
+pub ranged_exact : (least most : ℕ) (f : Field ℕ) → ((n : ℕ) → n ≤ most → f.Fits n) → IsExact f → IsExact (number_between least most f)
 ranged_exact least most f fits exact =
-    fitting_exact (λ n. (least ≤ n) × (n ≤ most)) (tested (is_within least most) codes.limit f)
+    fitting_exact (λ n. (least ≤ n) × (n ≤ most)) (field_with_test (is_within least most) codes.limit f)
     (λ n h. within_tells least most n h.1)
     (λ n h. (fits n h.1, is_within-true least most n h))
     (tested_exact (is_within least most) codes.limit f exact)
@@ -434,11 +434,11 @@ form_within spell Fits (f ∷ forms) exact tag rest e fits h =
     ]
 
 pub by_tag_takes : {A : Type 0} (spell : A → List ℕ) (Fits : A → Type 0) (forms : List (Form A)) → AreExactForms spell Fits forms → (bytes : List ℕ) (x : A × List ℕ) → IsBytes bytes → by_tag forms bytes ≡ Ok x → Takes bytes (spell x.0) x.1 × Fits x.0
-by_tag_takes spell Fits forms exact [] x fits e = not_both x (bad codes.truncated []) (sym e)
+by_tag_takes spell Fits forms exact [] x fits e = not_both x (bad codes.truncation []) (sym e)
 by_tag_takes spell Fits forms exact (tag ∷ rest) x fits e = form_takes spell Fits forms exact tag rest x (IsBytes-rest tag rest fits) e
 
 pub by_tag_within : {A : Type 0} (spell : A → List ℕ) (Fits : A → Type 0) (forms : List (Form A)) → AreExactForms spell Fits forms → (bytes : List ℕ) (e : Bad) → IsBytes bytes → by_tag forms bytes ≡ Err e → e.left ≤ length bytes
-by_tag_within spell Fits forms exact [] e fits h = rw (← err_is (bad codes.truncated []) e h) (omega arith)
+by_tag_within spell Fits forms exact [] e fits h = rw (← err_is (bad codes.truncation []) e h) (omega arith)
 by_tag_within spell Fits forms exact (tag ∷ rest) e fits h = form_within spell Fits forms exact tag rest e (IsBytes-rest tag rest fits) h
 
 -- a tag, and the field behind it of the form that is found by it
@@ -475,7 +475,7 @@ abbrev some_read : {A : Type 0} → Field A → ℕ → List ℕ → Read (Optio
 some_read f flag bytes = cond (eqb flag 1) (read_as (λ y. Some y) f.read bytes) (Err (bad codes.tag (flag ∷ bytes)))
 
 optional_takes : {A : Type 0} (f : Field A) → IsExact f → (bytes : List ℕ) (x : Option A × List ℕ) → IsBytes bytes → (optional f).read bytes ≡ Ok x → Takes bytes ((optional f).spell x.0) x.1 × IfSome x.0 f.Fits
-optional_takes f exact [] x fits e = absurd (not_both x (bad codes.truncated []) (sym e))
+optional_takes f exact [] x fits e = absurd (not_both x (bad codes.truncation []) (sym e))
 optional_takes {A} f exact (flag ∷ bytes) x fits e =
     let rest_fits = IsBytes-rest flag bytes fits in
     elim (chosen (eqb flag 0) (Ok (None, bytes)) (some_read f flag bytes) (Ok x) e) [
@@ -495,7 +495,7 @@ optional_again f exact None rest fits = refl
 optional_again f exact (Some x) rest fits = rw (exact.again x rest fits) refl
 
 optional_within : {A : Type 0} (f : Field A) → IsExact f → (bytes : List ℕ) (e : Bad) → IsBytes bytes → (optional f).read bytes ≡ Err e → e.left ≤ length bytes
-optional_within f exact [] e fits h = rw (← err_is (bad codes.truncated []) e h) (omega arith)
+optional_within f exact [] e fits h = rw (← err_is (bad codes.truncation []) e h) (omega arith)
 optional_within f exact (flag ∷ bytes) e fits h =
     elim (chosen (eqb flag 0) (Ok (None, bytes)) (some_read f flag bytes) (Err e) h) [
       | inl none ↦ not_both (None, bytes) e none.1
@@ -525,8 +525,8 @@ long_count_judged least most bytes n = cond (is_within least most n.0) (cond (lt
 long_count_takes : (least most : ℕ) (bytes rest : List ℕ) (x : ℕ × List ℕ) → IsBytes rest → long_count_read least most bytes rest ≡ Ok x → Takes (255 ∷ rest) (count_spelling x.0) x.1 × ((least ≤ x.0) × (x.0 ≤ most))
 long_count_takes least most bytes rest x fits e =
     let judged = long_count_judged least most bytes in
-    elim (chosen (ltb (length rest) 4) (Err (bad codes.truncated bytes)) ((number w32).read rest >>= judged) (Ok x) e) [
-      | inl cut ↦ not_both x (bad codes.truncated bytes) (sym cut.1)
+    elim (chosen (ltb (length rest) 4) (Err (bad codes.truncation bytes)) ((number w32).read rest >>= judged) (Ok x) e) [
+      | inl cut ↦ not_both x (bad codes.truncation bytes) (sym cut.1)
       | inr whole ↦
           let a = bind_ok ((number w32).read rest) judged x whole.1 in
           let p = number_takes w32 wide32 rest a.0 fits a.1 in
@@ -544,7 +544,7 @@ long_count_takes least most bytes rest x fits e =
 
 count_takes : (least most : ℕ) (bytes : List ℕ) (x : ℕ × List ℕ) → IsBytes bytes → count_read least most bytes ≡ Ok x → Takes bytes (count_spelling x.0) x.1 × ((least ≤ x.0) × (x.0 ≤ most))
 unfolding count_read
-count_takes least most [] x fits e = absurd (not_both x (bad codes.truncated []) (sym e))
+count_takes least most [] x fits e = absurd (not_both x (bad codes.truncation []) (sym e))
 count_takes least most (first ∷ rest) x fits e =
     let bytes = first ∷ rest in
     let short : Read ℕ = cond (is_within least most first) (Ok (first, rest)) (Err (bad codes.limit bytes)) in
@@ -576,8 +576,8 @@ count_again least most wide n rest fits =
 long_count_within : (least most : ℕ) (bytes rest : List ℕ) (e : Bad) → IsBytes rest → length rest ≤ length bytes → long_count_read least most bytes rest ≡ Err e → e.left ≤ length bytes
 long_count_within least most bytes rest e fits shorter h =
     let judged = long_count_judged least most bytes in
-    elim (chosen (ltb (length rest) 4) (Err (bad codes.truncated bytes)) ((number w32).read rest >>= judged) (Err e) h) [
-      | inl cut ↦ rw (← err_is (bad codes.truncated bytes) e cut.1) (omega arith)
+    elim (chosen (ltb (length rest) 4) (Err (bad codes.truncation bytes)) ((number w32).read rest >>= judged) (Err e) h) [
+      | inl cut ↦ rw (← err_is (bad codes.truncation bytes) e cut.1) (omega arith)
       | inr whole ↦
           elim (bind_err ((number w32).read rest) judged e whole.1) [
             | inl first ↦ omega (arith, number_within w32 rest e fits first)
@@ -595,7 +595,7 @@ long_count_within least most bytes rest e fits shorter h =
 
 count_within : (least most : ℕ) (bytes : List ℕ) (e : Bad) → IsBytes bytes → count_read least most bytes ≡ Err e → e.left ≤ length bytes
 unfolding count_read
-count_within least most [] e fits h = rw (← err_is (bad codes.truncated []) e h) (omega arith)
+count_within least most [] e fits h = rw (← err_is (bad codes.truncation []) e h) (omega arith)
 count_within least most (first ∷ rest) e fits h =
     let bytes = first ∷ rest in
     let short : Read ℕ = cond (is_within least most first) (Ok (first, rest)) (Err (bad codes.limit bytes)) in
@@ -704,7 +704,7 @@ elements_exact {A} e n exact = record {
   cut = λ xs fits. rw (← fits.0) (elements_cut e exact xs [] fits.1);
 }
 
-pub listed_exact : {A : Type 0} (least most : ℕ) (e : Element A) → most < 256 ^ 4 → IsExactElement e → IsExact (listed least most e)
+pub listed_exact : {A : Type 0} (least most : ℕ) (e : Element A) → most < 256 ^ 4 → IsExactElement e → IsExact (list_of least most e)
 listed_exact {A} least most e wide exact = record {
   takes = λ bytes x fits h.
       let n = bind_ok (count_read least most bytes) (λ n. elements_read e.read n.0 [] n.1) x h in

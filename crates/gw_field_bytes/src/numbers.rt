@@ -2,7 +2,7 @@
 
 ghost use Rattle.std.specs.Prelude.{◌≡◌, ◌∷◌};
 ghost use Rattle.std.specs.Int.{w16, w32, w64, to_be_bytes};
-ghost use Rattle.gw_fields.specs.Fields.{byte, number, signed, flag, ranged, count, count_spelling, optional_spelling, optional_read};
+ghost use Rattle.gw_fields.specs.Fields.{byte, number, signed_number, flag, number_between, count, count_spelling, optional_spelling, optional_read};
 ghost use Rattle.gw_field_bytes.specs.Receivers.{Puts};
 ghost use Rattle.gw_fields.specs.Answers.{Gives};
 
@@ -90,9 +90,9 @@ impl Spelled<NumberFormat> for u64 {
 }
 
 impl Spelled<NumberFormat> for i32 {
-    ghost spelling = { (signed w32).spell };
+    ghost spelling = { (signed_number w32).spell };
 
-    ghost reading = { (signed w32).read };
+    ghost reading = { (signed_number w32).read };
 
     fn put<R: Receiver>(&self, to: &mut R) -> Result<(), R::Refusal> {
         to.put_bytes(&self.to_be_bytes())
@@ -105,9 +105,9 @@ impl Spelled<NumberFormat> for i32 {
 }
 
 impl Spelled<NumberFormat> for i64 {
-    ghost spelling = { (signed w64).spell };
+    ghost spelling = { (signed_number w64).spell };
 
-    ghost reading = { (signed w64).read };
+    ghost reading = { (signed_number w64).read };
 
     fn put<R: Receiver>(&self, to: &mut R) -> Result<(), R::Refusal> {
         to.put_bytes(&self.to_be_bytes())
@@ -173,7 +173,7 @@ pub fn read_ranged_u8(
     least: u8,
     most: u8,
 ) -> Result<(u8, &[u8]), ReadError>
-    ensures { Gives (λ x. (x.0, x.1.now)) result ((ranged least most byte).read bytes.now) }
+    ensures { Gives (λ x. (x.0, x.1.now)) result ((number_between least most byte).read bytes.now) }
 {
     let (number, rest) = u8::read(alloc, bytes)?;
     if number < least || most < number {
@@ -189,7 +189,7 @@ pub fn read_ranged_u16(
     least: u16,
     most: u16,
 ) -> Result<(u16, &[u8]), ReadError>
-    ensures { Gives (λ x. (x.0, x.1.now)) result ((ranged least most (number w16)).read bytes.now) }
+    ensures { Gives (λ x. (x.0, x.1.now)) result ((number_between least most (number w16)).read bytes.now) }
 {
     let (number, rest) = u16::read(alloc, bytes)?;
     if number < least || most < number {
@@ -205,7 +205,7 @@ pub fn read_ranged_u32(
     least: u32,
     most: u32,
 ) -> Result<(u32, &[u8]), ReadError>
-    ensures { Gives (λ x. (x.0, x.1.now)) result ((ranged least most (number w32)).read bytes.now) }
+    ensures { Gives (λ x. (x.0, x.1.now)) result ((number_between least most (number w32)).read bytes.now) }
 {
     let (number, rest) = u32::read(alloc, bytes)?;
     if number < least || most < number {
@@ -221,7 +221,7 @@ pub fn read_ranged_u64(
     least: u64,
     most: u64,
 ) -> Result<(u64, &[u8]), ReadError>
-    ensures { Gives (λ x. (x.0, x.1.now)) result ((ranged least most (number w64)).read bytes.now) }
+    ensures { Gives (λ x. (x.0, x.1.now)) result ((number_between least most (number w64)).read bytes.now) }
 {
     let (number, rest) = u64::read(alloc, bytes)?;
     if number < least || most < number {

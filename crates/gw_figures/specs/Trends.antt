@@ -14,12 +14,12 @@ difference (Some a) None = None
 difference None b = None
 
 -- what stands at a place, if anything does
-abbrev pub joined : Option (Option ℤ) → Option ℤ
-joined None = None
-joined (Some value) = value
+abbrev pub value_at_place : Option (Option ℤ) → Option ℤ
+value_at_place None = None
+value_at_place (Some value) = value
 
 abbrev pub value_at : ℕ → List (Option ℤ) → Option ℤ
-value_at place values = joined (slice_get values place)
+value_at place values = value_at_place (slice_get values place)
 
 -- by how much a figure at a place changes, where it is an average or a content
 abbrev pub change : List (Option ℤ) → List (Option ℤ) → ℕ → Label → Option ℤ

@@ -9,7 +9,7 @@ use Rattle.gw_object.specs.declared.parts.Table.{Table}
 use Rattle.gw_entities.specs.declared.contents.Contents.{Contents}
 use Rattle.gw_report.specs.declared.entries.TableFigures.{TableFigures}
 use Rattle.gw_report.specs.Figures.{block_at, entity_at, classes_at}
-use Rattle.gw_figures.specs.Windows.{Span, passed, units, signed_units, rise, quotient, signed_quotient, greatest, rises}
+use Rattle.gw_figures.specs.Windows.{Span, span_length, units, signed_units, rise, quotient, signed_quotient, greatest, rises}
 
 -- PERCENTILES
 
@@ -44,7 +44,7 @@ shares count classes = map (λ values. quotient values count) classes
 -- of how the run ended: the clock units of the window, its steps and entries, and what is left to count
 abbrev pub end_values : Span → List (Option ℤ)
 end_values w =
-    units (passed w) ∷ rise w.start.steps w.end.steps ∷ rise w.start.entries w.end.entries
+    units (span_length w) ∷ rise w.start.steps w.end.steps ∷ rise w.start.entries w.end.entries
     ∷ signed_units w.end.count ∷ []
 
 -- of the block at a place, from 0: its entries, and how many are in it at the end
@@ -59,13 +59,13 @@ facility_values w e =
     let before = (entity_at e w.start).facility in
     let after = (entity_at e w.end).facility in
     rise before.entries after.entries ∷ units (entity_at e w.end).waiting
-    ∷ quotient (after.busy - before.busy) (passed w)
+    ∷ quotient (after.busy - before.busy) (span_length w)
     ∷ quotient (after.busy - before.busy) (after.entries - before.entries) ∷ []
 
 -- of contents over time: their average, and how long each unit stayed
 abbrev pub stay_values : Span → Contents → Contents → List (Option ℤ)
 stay_values w before after =
-    quotient (after.time_sum - before.time_sum) (passed w)
+    quotient (after.time_sum - before.time_sum) (span_length w)
     ∷ quotient (after.time_sum - before.time_sum) (after.entries - before.entries) ∷ []
 
 -- of contents: those at the end, the most at one moment, and the units that came in

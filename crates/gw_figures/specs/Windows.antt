@@ -18,8 +18,8 @@ abbrev pub span_of : Window → Span
 span_of w = record { whole = w.whole; start = w.start.now; end = w.end.now }
 
 -- how many clock units passed
-abbrev pub passed : Span → ℕ
-passed w = unsigned_abs w.end.clock - unsigned_abs w.start.clock
+abbrev pub span_length : Span → ℕ
+span_length w = unsigned_abs w.end.clock - unsigned_abs w.start.clock
 
 -- where all went well, values are added to others
 abbrev pub AddsValues : {E : Type 0} → Result (Unit {0}) E → Vec (Option ℤ) Global → Vec (Option ℤ) Global → List (Option ℤ) → Type 0

@@ -18,7 +18,7 @@ pub struct Window<'a> {
 
 /// How many clock units pass in a window.
 pub(crate) fn passed(window: &Window<'_>) -> u64
-    ensures { result ≡ model.passed (model.span_of window.now) }
+    ensures { result ≡ model.span_length (model.span_of window.now) }
 {
     let before = window.start.clock().unsigned_abs();
     window.end.clock().unsigned_abs().saturating_sub(before)

@@ -1,7 +1,7 @@
 -- What tests found, where memory may have run out.
 use Rattle.std.proofs.Common.{◌≡◌, ◌⊎◌, inl, inr, ℕ, ◌<◌, List, ◌++◌, length, drop, get_or, Option, Some, None, Result, Ok, Err}
 use Rattle.gw_object.specs.declared.fault.Fault.{Fault}
-use Rattle.gw_rules.specs.Checks.{Check, Finds, first_broken, numbered}
+use Rattle.gw_rules.specs.Checks.{Check, Finds, first_broken, checks_by_number}
 use Rattle.gw_rules.proofs.Broken.{stops, stops_first, joined}
 use Rattle.gw_object.specs.Reading.{out_of_memory}
 use Rattle.gw_rules.specs.Flow.{MayFind}
@@ -13,7 +13,7 @@ found_later {X} (Err fault) cs ds none (inl h) = inl (joined {X = X} (Err fault)
 found_later (Err fault) cs ds none (inr h) = inr h
 
 -- a fault of one element, the first that is left, is that of all
-pub found_here : {A : Type 0} (f : ℕ → A → List Check) (number : ℕ) (xs : List A) (i : ℕ) (d : A) (total : Option Fault) → i < length xs → first_broken (numbered f number (drop i xs)) ≡ total →
+pub found_here : {A : Type 0} (f : ℕ → A → List Check) (number : ℕ) (xs : List A) (i : ℕ) (d : A) (total : Option Fault) → i < length xs → first_broken (checks_by_number f number (drop i xs)) ≡ total →
     (fault : Fault) → (first_broken (f number (get_or xs i d)) ≡ Some fault) ⊎ (fault ≡ out_of_memory) → (total ≡ Some fault) ⊎ (fault ≡ out_of_memory)
 found_here f number xs i d total below so_far fault (inl h) = inl (stops f number xs i d total below so_far fault h)
 found_here f number xs i d total below so_far fault (inr h) = inr h

@@ -21,8 +21,8 @@ use Rattle.gw_flow.specs.declared.state.Param.{Param}
 use Rattle.gw_rules.specs.Entries.{in_place, with_number, with_entry}
 use Rattle.gw_rules.specs.Rows.{Row, ParamKind, KindAscends, IsOrdered, with_parameter, with_facility, without_facility, with_units, nonzero}
 use Rattle.gw_rules.specs.Seen.{row_blocks, kind_seen, kind_said, row_meaning}
-use Rattle.gw_flow.specs.Known.{PartsAscend, known}
-use Rattle.gw_flow.specs.Viewed.{kind_viewed, viewed}
+use Rattle.gw_flow.specs.Known.{PartsAscend, known_row}
+use Rattle.gw_flow.specs.Viewed.{kind_viewed, row_view}
 use Rattle.gw_flow.proofs.Ascending.{Ascends, All-from_map, AllPairs-map, AllPairs-from_map, ascends_placed}
 
 -- RETURN ROWS
@@ -46,7 +46,7 @@ module _ (rows : List ReturnRow) (up : All AreAscending rows) where
   -- PARTS
 
   -- what parts say whose lists ascend is ordered
-  pub parts_ordered : (s : StateParts) → PartsAscend s → IsOrdered (known rows s)
+  pub parts_ordered : (s : StateParts) → PartsAscend s → IsOrdered (known_row rows s)
   parts_ordered s h = record {
     params = AllPairs-map (λ (a b : ℕ × ParamKind). a.0 < b.0) (λ (p : Parameter). (p.number, kind_seen rows p.kind)) s.parameters h.parameters;
     returns = All-map (λ (e : ℕ × ParamKind). KindAscends e.1) (λ (p : Parameter). (p.number, kind_seen rows p.kind)) s.parameters (λ i d within. seen_ascends (get_or s.parameters i d).kind);
@@ -69,7 +69,7 @@ module _ (rows : List ReturnRow) (up : All AreAscending rows) where
 
 -- WHAT FLOW WORKS WITH
 
-module _ (ps : List Param) (fs : List ℕ) (us : List Amount) (h : IsOrdered (viewed ps fs us)) where
+module _ (ps : List Param) (fs : List ℕ) (us : List Amount) (h : IsOrdered (row_view ps fs us)) where
   pub params_from_viewed : AllPairs (λ (a b : Param). a.number < b.number) ps
   params_from_viewed = AllPairs-from_map (λ (a b : ℕ × ParamKind). a.0 < b.0) (λ (p : Param). (p.number, kind_viewed p.kind)) ps h.params
 

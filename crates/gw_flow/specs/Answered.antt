@@ -17,12 +17,12 @@ use Rattle.gw_rules.specs.Blocks.{FlowEdge}
 use Rattle.gw_rules.specs.Entries.{in_place}
 use Rattle.gw_rules.specs.Rows.{Row}
 use Rattle.gw_rules.specs.Flow.{own_table, rule_checks}
-use Rattle.gw_flow.specs.Known.{params_of, known}
+use Rattle.gw_flow.specs.Known.{params_of, known_row}
 use Rattle.gw_rules.specs.Blocks.{parameter_set, after, members_edges, own_edges_in, edges}
 
 -- a state says what is known of a transaction once it has passed the block of number b in another one, by the return rows
 abbrev pub HasPassed : List ReturnRow → ℕ → Block → StateParts → StateParts → Type 0
-HasPassed rows b block s passed = known rows passed ≡ after b block (known rows s)
+HasPassed rows b block s passed = known_row rows passed ≡ after b block (known_row rows s)
 
 -- the parameters that are sure to be set once one is set, if one is; each other one is as it was given
 abbrev pub parameters_with : Option Parameter → List Parameter → List Parameter
@@ -31,7 +31,7 @@ parameters_with (Some p) given = in_place (λ (q : Parameter). q.number) p given
 
 -- where an edge leads, and what its state says by the return rows
 abbrev pub edge_meaning : List ReturnRow → Edge → Target × Row
-edge_meaning rows e = (e.target, known rows e.state)
+edge_meaning rows e = (e.target, known_row rows e.state)
 
 -- where a flow edge leads, and what its state says
 abbrev pub flow_edge_meaning : FlowEdge → Target × Row
@@ -47,7 +47,7 @@ AreInNumbersOf ps out es = (rows : List ReturnRow) → All (λ (e : FlowEdge). e
 
 -- these are the edges of the block of number b in a state, by the return rows, of those who enter it and of their copies
 abbrev pub AreOwnEdges : List ReturnRow → ℕ → Block → StateParts → List Edge → Type 0
-AreOwnEdges rows b block s out = SayTheSame rows out (own_edges_in b block (known rows s))
+AreOwnEdges rows b block s out = SayTheSame rows out (own_edges_in b block (known_row rows s))
 
 -- these are the edges of the members whom a block sends on from their user chain, by an object's own table
 abbrev pub AreMembersEdges : Parts → Block → List Edge → Type 0
@@ -55,7 +55,7 @@ AreMembersEdges p block out = SayTheSame p.returns out (members_edges (own_table
 
 -- these are the edges of the block of number b in a state, by an object's own table
 abbrev pub AreEdges : Parts → ℕ → Block → StateParts → List Edge → Type 0
-AreEdges p b block s out = SayTheSame p.returns out (edges p (own_table p) b block (known p.returns s))
+AreEdges p b block s out = SayTheSame p.returns out (edges p (own_table p) b block (known_row p.returns s))
 
 -- the edges of those who enter the block, and of their copies: all but the one of the members whom an UNLINK takes from a user chain
 abbrev pub own_edges : Block → List Edge → List Edge
@@ -84,7 +84,7 @@ ForBlock p b fact = (block : Block) → block_at p.blocks b ≡ Some block → f
 
 -- the checks of the rules of the block of number b in a state, by an object's return rows
 abbrev pub rule_checks_in : Parts → ℕ → StateParts → Block → List Check
-rule_checks_in p b s block = rule_checks p b block (known p.returns s)
+rule_checks_in p b s block = rule_checks p b block (known_row p.returns s)
 
 -- what a call answers for the edges of the block of number b in a state: the fault of the first rule that is broken; else its edges, in order, unless memory ran out
 abbrev pub AnswersEdges : Parts → ℕ → StateParts → Result (Vec Edge Global) Fault → Block → Type 0

@@ -53,20 +53,20 @@ pub record PartsAscend (s : StateParts) : Type 0 where
   pub amounts : AreSome s.units
 
 -- what the parts of a state say, by the return rows
-abbrev pub known : List ReturnRow → StateParts → Row
-known rows s = record { params = params_of rows s.parameters; facilities = s.facilities; units = amounts_of s.units }
+abbrev pub known_row : List ReturnRow → StateParts → Row
+known_row rows s = record { params = params_of rows s.parameters; facilities = s.facilities; units = amounts_of s.units }
 
 -- what a row says that is lent, if there is one
 abbrev pub row_by : List ReturnRow → Option (Bor StateParts) → Option Row
-row_by rows row = option_map (known rows) (option_copied row)
+row_by rows row = option_map (known_row rows) (option_copied row)
 
 -- what several rows say, as far as they are there
 abbrev pub known_rows : List ReturnRow → List (Option StateParts) → List (Option Row)
-known_rows returns rows = map (option_map (known returns)) rows
+known_rows returns rows = map (option_map (known_row returns)) rows
 
 -- a state is an abstract one in the numbers of these parameters: by any return rows by which they say what that says of its own, it says the same
 abbrev pub IsInNumbersOf : List Parameter → StateParts → Row → Type 0
-IsInNumbersOf ps s state = (rows : List ReturnRow) → state.params ≡ params_of rows ps → known rows s ≡ state
+IsInNumbersOf ps s state = (rows : List ReturnRow) → state.params ≡ params_of rows ps → known_row rows s ≡ state
 
 -- what a row says that a parameter holds, as calls carry it
 abbrev pub kind_carried : TableKind → ParameterKind
@@ -79,11 +79,11 @@ parameter_carried p = record { number = p.number; kind = kind_carried p.kind }
 
 -- a state carries a row of the state table: it says the same, whatever the return rows
 abbrev pub Carries : StateParts → TableState → Type 0
-Carries s row = (returns : List ReturnRow) → known returns s ≡ row_meaning returns row
+Carries s row = (returns : List ReturnRow) → known_row returns s ≡ row_meaning returns row
 
 -- so it is where there may be no row
 abbrev pub CarriesRow : Option StateParts → Option TableState → Type 0
-CarriesRow s row = (returns : List ReturnRow) → option_map (known returns) s ≡ option_map (row_meaning returns) row
+CarriesRow s row = (returns : List ReturnRow) → option_map (known_row returns) s ≡ option_map (row_meaning returns) row
 
 -- and with each of several rows
 abbrev pub CarryRows : List (Option StateParts) → List (Option TableState) → Type 0

@@ -10,7 +10,7 @@ use Rattle.gw_flow.specs.declared.return_edges.Return.{Return}
 use Rattle.gw_rules.specs.Checks.{Check}
 use Rattle.gw_rules.specs.Rows.{Row, ParamKind, kind_of, is_return, return_blocks, Fits}
 use Rattle.gw_rules.specs.Seen.{kind_seen}
-use Rattle.gw_flow.specs.Known.{known}
+use Rattle.gw_flow.specs.Known.{known_row}
 use Rattle.gw_rules.specs.Blocks.{Table}
 use Rattle.gw_flow.specs.ViewedTable.{table_viewed, checks_by}
 
@@ -21,15 +21,15 @@ pub record MayReturn (table : Table) (state : Row) (kind : ParamKind) : Type 0 w
 
 -- a transaction that goes by this may pass a TRANSFER in parameter mode
 abbrev pub PassesBy : StateTable → Return → Type 0
-PassesBy t r = MayReturn (table_viewed t) (known t.returns.now r.state.now) (kind_seen t.returns.now r.kind)
+PassesBy t r = MayReturn (table_viewed t) (known_row t.returns.now r.state.now) (kind_seen t.returns.now r.kind)
 
 -- by any return rows this is what a parameter holds in a state, if it is set
 abbrev pub IsHeld : ℕ → StateParts → Option Return → Type 0
-IsHeld q s held = (rows : List ReturnRow) → option_map (λ (r : Return). kind_seen rows r.kind) held ≡ kind_of (known rows s) q
+IsHeld q s held = (rows : List ReturnRow) → option_map (λ (r : Return). kind_seen rows r.kind) held ≡ kind_of (known_row rows s) q
 
 -- this is what a parameter holds, by the return rows of a table
 abbrev pub GoesBy : StateTable → ℕ → Return → Type 0
-GoesBy t q r = kind_of (known t.returns.now r.state.now) q ≡ Some (kind_seen t.returns.now r.kind)
+GoesBy t q r = kind_of (known_row t.returns.now r.state.now) q ≡ Some (kind_seen t.returns.now r.kind)
 
 -- the checks of a TRANSFER in parameter mode, the block of number b, for a transaction that goes by this
 abbrev pub way_back_checks : Parts → StateTable → ℕ → ℕ → Return → List Check

@@ -20,9 +20,9 @@ lower None n = Some n
 lower (Some m) n = if nat_le m n then Some m else Some n
 
 -- the least so far, lowered to a parameter, if that one isn't sure to hold a number
-abbrev pub lowered : Row → Option ℕ → ℕ → Option ℕ
-lowered state least p = if is_unfit state p then lower least p else least
+abbrev pub lower_to : Row → Option ℕ → ℕ → Option ℕ
+lower_to state least p = if is_unfit state p then lower least p else least
 
 -- the least so far, lowered to those of these parameters that aren't sure to hold a number
 abbrev pub lowest : Row → Option ℕ → List ℕ → Option ℕ
-lowest state least ps = fold (lowered state) least ps
+lowest state least ps = fold (lower_to state) least ps

@@ -7,7 +7,7 @@ ghost use Rattle.gw_rules.specs.Rows.{HasRoom};
 ghost use Rattle.gw_rules.specs.Flow as model;
 ghost use Rattle.gw_rules.specs.Flow.{MayFind};
 ghost use Rattle.gw_rules.specs.Seen.{HaveNext};
-ghost use Rattle.gw_flow.specs.Known.{known};
+ghost use Rattle.gw_flow.specs.Known.{known_row};
 ghost use Rattle.gw_flow.specs.ViewedTable.{table_viewed, HaveRoom, checks_by, checks_in_row};
 ghost use Rattle.gw_flow.specs.ReturnEdges.{PassesBy, GoesBy, way_back_checks};
 
@@ -35,7 +35,7 @@ fn check_in(
 ) -> Result<(), Fault>
     requires number { number ≤ 4096 }
     requires returns { All AreAscending table.returns.now }
-    requires room { HasRoom (known table.returns.now state.now) }
+    requires room { HasRoom (known_row table.returns.now state.now) }
     ensures { MayFind result (checks_by parts.now table.entry number block.now state.now) }
 {
     let returns = table.returns.rows();
@@ -58,7 +58,7 @@ fn check_way_back<'r>(
 ) -> Result<(), Fault>
     requires number { number ≤ 4096 }
     requires returns { All AreAscending table.returns.now }
-    requires room { HasRoom (known table.returns.now this.state.now) }
+    requires room { HasRoom (known_row table.returns.now this.state.now) }
     requires held { GoesBy table parameter this }
     requires pass { All (PassesBy table) earlier.old.items }
     ensures found { MayFind result (way_back_checks parts.now table.entry number parameter this.entry) }
@@ -88,7 +88,7 @@ fn check_with_row<'r>(
 ) -> Result<(), Fault>
     requires number { number ≤ 4096 }
     requires returns { All AreAscending table.returns.now }
-    requires room { HasRoom (known table.returns.now state.now) }
+    requires room { HasRoom (known_row table.returns.now state.now) }
     requires pass { All (PassesBy table) earlier.old.items }
     ensures found { MayFind result
         (checks_by parts.now table.entry number block.now state.now) }

@@ -9,7 +9,7 @@ ghost use Rattle.gw_flow.specs.Answered.{HasPassed, HaveParameters, HaveGiven, K
 ghost use Rattle.gw_flow.specs.Answered.{ForBlock, rule_checks_in};
 ghost use Rattle.gw_flow.specs.Answered.{parameters_with as with_parameter_set};
 ghost use Rattle.gw_flow.specs.Answered.{AreInNumbersOf, AreOwnEdges, AreMembersEdges, AreEdges, AnswersEdges};
-ghost use Rattle.gw_flow.specs.Known.{known, ParametersAscend};
+ghost use Rattle.gw_flow.specs.Known.{known_row, ParametersAscend};
 
 use crate::abstract_state::AbsState;
 use crate::edges::{Edge, after, edge_in_numbers_of, own_edges_of};
@@ -56,7 +56,7 @@ pub(crate) fn passed(
     state: &AbsState,
 ) -> Result<AbsState, Memory>
     requires returns { All AreAscending returns.now }
-    requires room { HasRoom (known returns.now state.now) }
+    requires room { HasRoom (known_row returns.now state.now) }
     ensures { IfOk result (λ s. HasPassed returns.now number block.now state.now s) }
 {
     let seen = State::of(alloc, returns, state)?;
@@ -93,7 +93,7 @@ fn own_edges(
 ) -> Result<Vec<Edge>, Memory>
     requires number { number ≤ 4096 }
     requires returns { All AreAscending returns.now }
-    requires room { HasRoom (known returns.now state.now) }
+    requires room { HasRoom (known_row returns.now state.now) }
     ensures same { IfOk result (λ es. AreOwnEdges returns.now number block.now state.now es.items) }
     ensures own { IfOk result (λ es. HaveGiven es.items number block.now state.now.parameters) }
 {
@@ -133,7 +133,7 @@ fn all_edges(
 ) -> Result<Vec<Edge>, Memory>
     requires number { number ≤ 4096 }
     requires spelled { HasSpelling parts.now }
-    requires room { HasRoom (known parts.now.returns state.now) }
+    requires room { HasRoom (known_row parts.now.returns state.now) }
     ensures same { IfOk result (λ out. AreEdges parts.now number block.now state.now out.items) }
     ensures own { KeepOwn number state.now result block.now }
 {
@@ -160,7 +160,7 @@ fn edges_or_fault(
 ) -> Result<Vec<Edge>, Fault>
     requires number { number ≤ 4096 }
     requires spelled { HasSpelling parts.now }
-    requires room { HasRoom (known parts.now.returns state.now) }
+    requires room { HasRoom (known_row parts.now.returns state.now) }
     ensures edges { AnswersEdges parts.now number state.now result block.now }
     ensures own { KeepOwn number state.now result block.now }
 {
@@ -189,7 +189,7 @@ pub fn out_edges(
     state: &AbsState,
 ) -> Result<Vec<Edge>, Fault>
     requires block { IsSome (block_at object.now.blocks block) }
-    requires room { HasRoom (known object.now.returns state.now) }
+    requires room { HasRoom (known_row object.now.returns state.now) }
     ensures edges { ForBlock object.now block (AnswersEdges object.now block state.now result) }
     ensures own { ForBlock object.now block (KeepOwn block state.now result) }
 {

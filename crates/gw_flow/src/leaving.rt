@@ -5,7 +5,7 @@ ghost use Rattle.gw_rules.specs.Blocks.{known_of, edge_along, edges_along, edges
 ghost use Rattle.gw_rules.specs.Flow.{fits_row as row_fits};
 ghost use Rattle.gw_flow.specs.Answered.{HasPassed};
 ghost use Rattle.gw_rules.specs.Rows.{fits as fits_of, parameters_alone, HasRoom};
-ghost use Rattle.gw_flow.specs.Known.{known, row_by};
+ghost use Rattle.gw_flow.specs.Known.{known_row, row_by};
 ghost use Rattle.gw_flow.specs.ViewedTable.{FindsMisfit, MayFindMisfit};
 
 use crate::abstract_state::AbsState;
@@ -23,7 +23,7 @@ use std::alloc::{AllocError, Global};
 
 /// Whether a state fits a row: it has at least the row's parameters, exactly its facilities, and at least its units.
 pub(crate) fn fits(by: &Inclusions<'_>, state: &AbsState, row: &AbsState) -> bool
-    ensures { result ≡ fits_of (known by.now state.now) (known by.now row.now) }
+    ensures { result ≡ fits_of (known_row by.now state.now) (known_row by.now row.now) }
 {
     let held = state.parts();
     let asked = row.parts();
@@ -34,7 +34,7 @@ pub(crate) fn fits(by: &Inclusions<'_>, state: &AbsState, row: &AbsState) -> boo
 
 /// Whether a copy of a transaction in a state fits a row: it owns and holds nothing.
 fn copy_fits(by: &Inclusions<'_>, state: &AbsState, row: &AbsState) -> bool
-    ensures { result ≡ fits_of (parameters_alone (known by.now state.now)) (known by.now row.now) }
+    ensures { result ≡ fits_of (parameters_alone (known_row by.now state.now)) (known_row by.now row.now) }
 {
     let none: &[u16] = &[];
     let asked = row.parts();
@@ -48,7 +48,7 @@ fn copy_fits(by: &Inclusions<'_>, state: &AbsState, row: &AbsState) -> bool
 
 /// Whether there is a row, and who goes on fits it, of a transaction in a state.
 fn fits_row(by: &Inclusions<'_>, who: Who, state: &AbsState, row: Option<&AbsState>) -> bool
-    ensures { result ≡ row_fits (known_of who (known by.now state.now)) (row_by by.now row.entry) }
+    ensures { result ≡ row_fits (known_of who (known_row by.now state.now)) (row_by by.now row.entry) }
 {
     match row {
         Some(row) => match who {
@@ -104,7 +104,7 @@ fn check_moves(
     passed: &AbsState,
 ) -> Result<(), Fault>
     requires number { number ≤ 4096 }
-    requires room { HasRoom (known table.returns.now state.now) }
+    requires room { HasRoom (known_row table.returns.now state.now) }
     requires passed { HasPassed table.returns.now number block.now state.now passed.now }
     ensures { MayFindMisfit table.entry number (λ _. edges_from number block.now) state.now result }
 {
@@ -160,7 +160,7 @@ pub(crate) fn check_edges(
     passed: &AbsState,
 ) -> Result<(), Fault>
     requires number { number ≤ 4096 }
-    requires room { HasRoom (known table.returns.now state.now) }
+    requires room { HasRoom (known_row table.returns.now state.now) }
     requires passed { HasPassed table.returns.now number block.now state.now passed.now }
     ensures { MayFindMisfit table.entry number (λ t. edges_of t number block.now) state.now result }
 {

@@ -4,7 +4,7 @@ ghost use Rattle.std.specs.Prelude.{◌≡◌, ◌==◌, length, is_some, option
 ghost use Rattle.gw_rules.specs.Rows.{Row};
 ghost use Rattle.gw_rules.specs.Rows as rows;
 ghost use Rattle.gw_flow.specs.Viewed.{kind_viewed};
-ghost use Rattle.gw_flow.specs.Known.{known as known_of, amounts_of};
+ghost use Rattle.gw_flow.specs.Known.{known_row as known_of, amounts_of};
 
 use crate::abstract_state::{AbsState, Amount};
 use crate::lists::{amount_in, of_key};

@@ -42,7 +42,7 @@ fn lower(least: Option<u8>, number: u8) -> Option<u8>
 
 /// The least so far, lowered to a parameter, if that one isn't sure to hold a number.
 fn lowered<S: Lookups>(least: Option<u8>, parameter: u8, state: &S) -> Option<u8>
-    ensures { result ≡ unfit.lowered (S.known state.now) least parameter }
+    ensures { result ≡ unfit.lower_to (S.known state.now) least parameter }
 {
     if state.is_number(parameter) {
         least

@@ -6,9 +6,9 @@ ghost use Rattle.gw_object.specs.Grammar.{AreAscending};
 ghost use Rattle.gw_rules.specs.Rows as rows;
 ghost use Rattle.gw_rules.specs.Rows.{Ret, with_parameter};
 ghost use Rattle.gw_rules.specs.Seen.{row_blocks, kind_seen};
-ghost use Rattle.gw_flow.specs.Known.{params_of, known};
+ghost use Rattle.gw_flow.specs.Known.{params_of, known_row};
 ghost use Rattle.gw_flow.specs.Known.{ParametersAscend, IsInNumbersOf};
-ghost use Rattle.gw_flow.specs.Viewed.{kind_viewed, params_viewed, viewed};
+ghost use Rattle.gw_flow.specs.Viewed.{kind_viewed, params_viewed, row_view};
 
 use crate::abstract_state::{AbsState, Amount, StateParts};
 use crate::fits::{has_params, has_units};
@@ -71,13 +71,13 @@ pub struct State<'a> {
 
 impl<'a> Model for State<'a> {
     ghost use Rattle.gw_rules.specs.Rows.{Row, IsOrdered};
-    ghost use Rattle.gw_flow.specs.Viewed.{viewed};
+    ghost use Rattle.gw_flow.specs.Viewed.{row_view};
 
     ghost Value = { Row };
 
-    ghost view = { λ s. viewed s.params s.facilities s.units };
+    ghost view = { λ s. row_view s.params s.facilities s.units };
 
-    ghost invariant = { λ s. IsOrdered (viewed s.params s.facilities s.units) };
+    ghost invariant = { λ s. IsOrdered (row_view s.params s.facilities s.units) };
 }
 
 /// A parameter as flow works with it.
@@ -112,8 +112,8 @@ fn params_seen<'a>(
 impl<'a> State<'a> {
     /// The state of these lists, which ascend.
     pub fn of_lists(params: Vec<Param<'a>>, facilities: Vec<u16>, units: Vec<Amount>) -> State<'a>
-        requires { rows.IsOrdered (viewed params.items facilities.items units.items) }
-        ensures { result ≡ viewed params.entry.items facilities.items units.items }
+        requires { rows.IsOrdered (row_view params.items facilities.items units.items) }
+        ensures { result ≡ row_view params.entry.items facilities.items units.items }
     {
         State {
             params: Items::from_vec(params),
@@ -137,7 +137,7 @@ impl<'a> State<'a> {
         state: &AbsState,
     ) -> Result<State<'a>, Memory>
         requires { All AreAscending returns.now }
-        ensures { IfOk result (λ s. s ≡ known returns.now state.now) }
+        ensures { IfOk result (λ s. s ≡ known_row returns.now state.now) }
     {
         let parts = state.parts();
         let params = params_seen(alloc, returns, parts.parameters.as_slice())?;

@@ -3,7 +3,7 @@
 ghost use Rattle.std.specs.Prelude.{◌<◌, ◌≤◌, ◌+◌, ℕ, List, length};
 ghost use Rattle.std.specs.List.{All};
 ghost use Rattle.gw_object.specs.declared.parts.Parts.{Parts};
-ghost use Rattle.gw_rules.specs.Checks.{Check, Finds, numbered};
+ghost use Rattle.gw_rules.specs.Checks.{Check, Finds, checks_by_number};
 
 use gw_object::{Fault, Parts};
 
@@ -31,7 +31,7 @@ pub(crate) fn check_each<T, C: NumberedChecks<T>>(
 ) -> Result<(), Fault>
     requires numbers { first + length elements.now ≤ 4097 }
     requires elements { All C.can_check elements.now }
-    ensures { Finds result (numbered (C.checks checks.now parts.now) first elements.now) }
+    ensures { Finds result (checks_by_number (C.checks checks.now parts.now) first elements.now) }
 {
     for i in 0..elements.len() {
         checks.check_one(parts, first + i as u16, &elements[i])?;

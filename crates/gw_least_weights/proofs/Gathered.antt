@@ -5,7 +5,7 @@ use Rattle.std.proofs.lemmas.Bool.{or_parts}
 use Rattle.std.proofs.Common.{eq-or-lt_of_le}
 use Rattle.gw_object.specs.Limits.{greatest_weight}
 use Rattle.gw_least_weights.specs.declared.rules.Rule.{Rule}
-use Rattle.gw_least_weights.specs.Rules.{weight_at, of_sum, needed, Keeps, once, nothing}
+use Rattle.gw_least_weights.specs.Rules.{weight_at, of_sum, need_of, Keeps, once, nothing}
 use Rattle.gw_least_weights.specs.Least.{InRange, Gathers}
 use Rattle.gw_least_weights.specs.Rounds.{IsRaisedFor, IsRaised, IsGathered, AreGathered, IsRound, AreInOrder}
 use Rattle.gw_least_weights.proofs.Raised.{at_most_greatest, raised_none, raised_both, raised_once, Asked, none_asked, asked_more}
@@ -35,7 +35,7 @@ module _ (counted : ℕ) (r : Rule) (g : Gathers counted r) where
   is_kept w h = omega (arith, gathers_first w, h.0)
 
   -- it asks for what it gathers
-  pub needed_gathered : (w : List ℕ) → needed w r ≡ weight_at w (gathered_place r)
+  pub needed_gathered : (w : List ℕ) → need_of w r ≡ weight_at w (gathered_place r)
   needed_gathered w =
       let second : of_sum w r.second ≤ of_sum w r.first = omega (arith, gathers_second w) in
       max-eq_left second ∙ gathers_first w
@@ -104,10 +104,10 @@ module _ (rules : List Rule) (counted count : ℕ) (order : AreInOrder rules cou
     ]
 
     -- and one that this rule raises is no more than what it gathers
-    gathered_now : (place : ℕ) → place ≡ r.at → weight_at x place ≤ needed v r → counted ≤ place → IsGathered rules x place
+    gathered_now : (place : ℕ) → place ≡ r.at → weight_at x place ≤ need_of v r → counted ≤ place → IsGathered rules x place
     gathered_now place here most far =
         let g : Gathers counted r = subst (Gathers counted) (is r) (order.gathers n r within (subst (λ i. counted ≤ i) (here ∙ sym (place_is r)) far)) in
-        let asks : needed v r ≡ weight_at v (gathered_place r) = needed_gathered counted r g v in
+        let asks : need_of v r ≡ weight_at v (gathered_place r) = needed_gathered counted r g v in
         record {
           rule = r;
           there = (n, within, is r);

@@ -2,7 +2,7 @@
 use Rattle.std.specs.Prelude.{◌≡◌, ◌⊎◌, ℕ, ◌≤◌, ◌<◌, List, length, slice_index_or, min, All, Contains}
 use Rattle.gw_object.specs.Limits.{greatest_weight}
 use Rattle.gw_least_weights.specs.declared.rules.Rule.{Rule}
-use Rattle.gw_least_weights.specs.Rules.{weight_at, of_sum, needed, Keeps}
+use Rattle.gw_least_weights.specs.Rules.{weight_at, of_sum, need_of, Keeps}
 use Rattle.gw_least_weights.specs.Least.{EachAtMost, InRange, IsCertificate, Gathers}
 
 -- what raising for one rule makes of weights: each grows, at the rule's place to what it asks for or to the greatest weight, and to no more than weights have that keep the rule
@@ -12,7 +12,7 @@ pub record IsRaisedFor (r : Rule) (w v : List ℕ) : Type 0 where
   pub second : min (of_sum w r.second) greatest_weight ≤ weight_at v r.at
   pub below : (u : List ℕ) → Keeps u r → EachAtMost w u → EachAtMost v u
   pub range : InRange w → InRange v
-  pub moved : (i : ℕ) → (weight_at v i ≡ weight_at w i) ⊎ ((i ≡ r.at) × (weight_at v i ≤ needed w r))
+  pub moved : (i : ℕ) → (weight_at v i ≡ weight_at w i) ⊎ ((i ≡ r.at) × (weight_at v i ≤ need_of w r))
 
 -- weights that are raised in whatever order, to no more than rules ask: each grows, and to no more than any have that keep the rules
 pub record IsRaised (rules : List Rule) (w v : List ℕ) : Type 0 where

@@ -30,8 +30,8 @@ abbrev pub once : ℕ → Sum
 once place = record { own = 0; first = record { times = 1; place = place }; second = record { times = 0; place = 0 }; less = 0 }
 
 -- what a rule asks for by these weights
-abbrev pub needed : List ℕ → Rule → ℕ
-needed weights r = max (of_sum weights r.first) (of_sum weights r.second)
+abbrev pub need_of : List ℕ → Rule → ℕ
+need_of weights r = max (of_sum weights r.first) (of_sum weights r.second)
 
 -- weights keep a rule: each of its sums is at most the weight at its place
 abbrev pub Keeps : List ℕ → Rule → Type 0
@@ -39,8 +39,8 @@ Keeps weights r = (of_sum weights r.first ≤ weight_at weights r.at) × (of_sum
 
 -- whether there is a weight at a place, and it is below what is needed there and below the greatest weight
 abbrev pub is_below : List ℕ → ℕ → ℕ → Bool
-is_below weights place needed = nat_lt place (length weights) && nat_lt (slice_index_or weights place 0) (min needed greatest_weight)
+is_below weights place need_of = nat_lt place (length weights) && nat_lt (slice_index_or weights place 0) (min need_of greatest_weight)
 
 -- the weights, with the one at a place raised to what is needed there, or to the greatest weight
 abbrev pub raised_at : List ℕ → ℕ → ℕ → List ℕ
-raised_at weights place needed = if is_below weights place needed then set weights place (min needed greatest_weight) else weights
+raised_at weights place need_of = if is_below weights place need_of then set weights place (min need_of greatest_weight) else weights

@@ -2,7 +2,7 @@
 use Rattle.std.proofs.Common.{◌≡◌, ◌∙◌, ℕ, suc, ◌+◌, List, [], ◌∷◌, ◌++◌, codes, refl, sym, ap, subst}
 use Rattle.std.proofs.Math.Numerals.{suc-eq-add-one}
 use Rattle.std.proofs.lemmas.List.{append-nil, append_assoc}
-use Rattle.gw_listing.specs.Lines.{Opening, Whole, Front, IsLine, AreWords, AreLines, AddsLines, EndsLine, numbered}
+use Rattle.gw_listing.specs.Lines.{Opening, Whole, Front, IsLine, AreWords, AreLines, AddsLines, EndsLine, openings_below}
 
 -- words are words where they are added
 pub ended : (old words new : List ℕ) → AreWords words → new ≡ old ++ words ++ codes "\n" → EndsLine old new
@@ -44,9 +44,9 @@ joined some more old middle new before after = record {
 }
 
 -- those of one number more
-pub one_more : (lines : ℕ → List Opening) (n : ℕ) (old middle new : List ℕ) → AddsLines (numbered lines n) old middle → AddsLines (lines n) middle new → AddsLines (numbered lines (n + 1)) old new
+pub one_more : (lines : ℕ → List Opening) (n : ℕ) (old middle new : List ℕ) → AddsLines (openings_below lines n) old middle → AddsLines (lines n) middle new → AddsLines (openings_below lines (n + 1)) old new
 one_more lines n old middle new before this =
-    subst (λ k. AddsLines (numbered lines k) old new) (suc-eq-add-one n) (joined (numbered lines n) (lines n) old middle new before this)
+    subst (λ k. AddsLines (openings_below lines k) old new) (suc-eq-add-one n) (joined (openings_below lines n) (lines n) old middle new before this)
 
 -- what was added to nothing is all of a text
 all : (openings : List Opening) (old text : List ℕ) → old ≡ [] → AddsLines openings old text → AreLines openings text

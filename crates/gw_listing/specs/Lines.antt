@@ -45,6 +45,6 @@ pub record EndsLine (old new : List ℕ) : Type 0 where
   pub added : new ≡ old ++ words ++ codes "\n"
 
 -- those of the numbers below this one, ascending from 0
-abbrev pub numbered : (ℕ → List Opening) → ℕ → List Opening
-numbered lines zero = []
-numbered lines (suc n) = numbered lines n ++ lines n
+abbrev pub openings_below : (ℕ → List Opening) → ℕ → List Opening
+openings_below lines zero = []
+openings_below lines (suc n) = openings_below lines n ++ lines n

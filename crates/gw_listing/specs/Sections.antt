@@ -3,7 +3,7 @@ use Rattle.std.specs.Prelude.{ℕ, List, [], ◌∷◌, length}
 use Rattle.gw_object.specs.declared.parts.Parts.{Parts}
 use Rattle.gw_listing.specs.declared.sections.Section.{Section}
 use Rattle.gw_listing.specs.declared.sections.Section.TheVariants as sections
-use Rattle.gw_listing.specs.Lines.{Opening, Front, numbered}
+use Rattle.gw_listing.specs.Lines.{Opening, Front, openings_below}
 use Rattle.gw_listing.specs.Shape.{block_front, entity_front, chain_front, instruction_front, return_front}
 
 -- how many parts it has
@@ -27,4 +27,4 @@ section_opening parts section place = Front (section_front parts section place) 
 
 -- a line for each part
 abbrev pub section_openings : Parts → Section → List Opening
-section_openings parts section = numbered (section_opening parts section) (section_length parts section)
+section_openings parts section = openings_below (section_opening parts section) (section_length parts section)

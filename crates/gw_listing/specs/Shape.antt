@@ -4,19 +4,19 @@ use Rattle.std.specs.Fmt.{decimal}
 use Rattle.gw_code.specs.declared.parts.Procedure.{Procedure}
 use Rattle.gw_object.specs.declared.parts.Parts.{Parts}
 use Rattle.gw_sources.specs.Sites.{Sites}
-use Rattle.gw_listing.specs.Lines.{Opening, Whole, Front, numbered}
+use Rattle.gw_listing.specs.Lines.{Opening, Whole, Front, openings_below}
 
 -- a word and a number, where there is one
-abbrev pub told : List ℕ → Option ℕ → List ℕ
-told word None = []
-told word (Some number) = word ++ decimal number
+abbrev pub word_with_number : List ℕ → Option ℕ → List ℕ
+word_with_number word None = []
+word_with_number word (Some number) = word ++ decimal number
 
 -- the line of the text at a place of these, and the weight at a place
 abbrev pub line_part : List ℕ → ℕ → List ℕ
-line_part lines i = told (codes " line ") (slice_get lines i)
+line_part lines i = word_with_number (codes " line ") (slice_get lines i)
 
 abbrev pub weight_part : List ℕ → ℕ → List ℕ
-weight_part weights i = told (codes " weight ") (slice_get weights i)
+weight_part weights i = word_with_number (codes " weight ") (slice_get weights i)
 
 -- a slope of a weight, if there is one: its parameter, and what each 1 of that adds
 abbrev pub slope_words : Option (ℕ × ℕ) → List ℕ
@@ -72,14 +72,14 @@ takes_opening arguments = Front (takes_front arguments) ∷ []
 -- this, and its instructions
 abbrev pub code_openings : Option Procedure → List Opening
 code_openings None = []
-code_openings (Some p) = takes_opening p.arguments ++ numbered instruction_opening (length p.code)
+code_openings (Some p) = takes_opening p.arguments ++ openings_below instruction_opening (length p.code)
 
 abbrev pub procedure_openings : List ℕ → List Procedure → ℕ → List Opening
 procedure_openings lines procedures i = (procedure_head i (slice_get lines i) ∷ []) ++ code_openings (slice_get procedures i)
 
 -- all procedures
 abbrev pub procedures_openings : List ℕ → List Procedure → List Opening
-procedures_openings lines procedures = numbered (procedure_openings lines procedures) (length procedures)
+procedures_openings lines procedures = openings_below (procedure_openings lines procedures) (length procedures)
 
 -- a return row: its number
 abbrev pub return_front : ℕ → List ℕ
@@ -105,8 +105,8 @@ abbrev pub openings : Parts → Sites → List Opening
 openings p sites =
     version_openings p.version
     ++ start_opening p.count
-    ++ numbered (block_opening sites.blocks p) (length p.blocks)
-    ++ numbered (entity_opening sites.entities) (length p.entities)
-    ++ numbered (chain_opening p.chain_weights) (length p.chain_weights)
+    ++ openings_below (block_opening sites.blocks p) (length p.blocks)
+    ++ openings_below (entity_opening sites.entities) (length p.entities)
+    ++ openings_below (chain_opening p.chain_weights) (length p.chain_weights)
     ++ procedures_openings sites.procedures p.procedures
-    ++ numbered return_opening (length p.returns)
+    ++ openings_below return_opening (length p.returns)

@@ -1,7 +1,7 @@
 //! The listing of a model text, or of an object.
 
 ghost use Rattle.std.specs.Prelude.{◌≡◌, IfOk};
-ghost use Rattle.gw_answers.specs.Status.{ended};
+ghost use Rattle.gw_answers.specs.Status.{end_status};
 ghost use Rattle.gw_sources.specs.Sites.{sites_of, sites_told};
 ghost use Rattle.gw_listing.specs.Listing.{IsListingOf, TellsRefusal, IsListedObject, IsListedModel, IsListedText, IsListed};
 
@@ -23,7 +23,7 @@ fn listed(
     sources: &Sources,
 ) -> Result<Answer, Memory>
     ensures text { IfOk result (λ a. IsListingOf verified.now (sites_told sources.now) a.text.items) }
-    ensures status { IfOk result (λ a. a.status ≡ ended) }
+    ensures status { IfOk result (λ a. a.status ≡ end_status) }
 {
     Ok(Answer {
         text: listing_of(alloc, verified.object().parts(), text, sources)?,
@@ -66,7 +66,7 @@ fn listed_with_lines(
 ) -> Result<Answer, Memory>
     ensures text { IfOk result (λ a.
         IsListingOf verified.now (sites_of model.now.statements.items) a.text.items) }
-    ensures status { IfOk result (λ a. a.status ≡ ended) }
+    ensures status { IfOk result (λ a. a.status ≡ end_status) }
 {
     let sources = sources(alloc, model)?;
     listed(alloc, verified, text, &sources)

@@ -3,7 +3,7 @@
 ghost use Rattle.std.specs.Prelude.{slice_get, IfOk, OnOk};
 ghost use Rattle.gw_report.specs.Report.{Puts};
 ghost use Rattle.gw_listing.specs.Lines.{AreWords, EndsLine};
-ghost use Rattle.gw_listing.specs.Shape.{told, slope_words, slope_part};
+ghost use Rattle.gw_listing.specs.Shape.{word_with_number, slope_words, slope_part};
 
 use gw_object::Memory;
 use gw_report::text::{put, put_number};
@@ -29,7 +29,7 @@ pub(crate) fn put_told(
     numbers: &[u32],
     place: usize,
 ) -> Result<(), Memory>
-    ensures { Puts result out.old out.new (told text.now (slice_get numbers.now place)) }
+    ensures { Puts result out.old out.new (word_with_number text.now (slice_get numbers.now place)) }
 {
     match numbers.get(place) {
         Some(number) => put_number(out, text, *number),

@@ -19,8 +19,8 @@ use Rattle.gw_transactions.specs.declared.Transaction.{Transaction}
 use Rattle.gw_transactions.specs.Transactions.{LiveTransaction, Population, attributes_at, put_attributes, put_chain, Holds, IsSound, KeepsRest}
 use Rattle.gw_machine.specs.Configuration.{Configuration}
 use Rattle.gw_step.specs.State.{State, priority_of, user_chain}
-use Rattle.gw_step.specs.Changes.{linked, joins_chain, leaves_chain}
-use Rattle.gw_step.specs.Blocks.{first_unlinked, unlinked}
+use Rattle.gw_step.specs.Changes.{link_in, joins_chain, leaves_chain}
+use Rattle.gw_step.specs.Blocks.{first_unlinked, unlink_members}
 use Rattle.gw_step.specs.Residence.{ResidesOnce}
 use Rattle.gw_step.proofs.Attributes.{bearer_at}
 use Rattle.gw_step.proofs.Lists.{all_placed, map-behind}
@@ -89,7 +89,7 @@ abbrev pub joined_at : LinkOrder → Tx → List Tx → List Tx
 joined_at Fifo tx members = members ++ tx ∷ []
 joined_at Lifo tx members = tx ∷ members
 
-numbers-joined : (order : LinkOrder) (tx : Tx) (xs : List Tx) → map handle_number (joined_at order tx xs) ≡ linked order tx.number (map handle_number xs)
+numbers-joined : (order : LinkOrder) (tx : Tx) (xs : List Tx) → map handle_number (joined_at order tx xs) ≡ link_in order tx.number (map handle_number xs)
 numbers-joined Fifo tx [] = refl
 numbers-joined Fifo tx (x ∷ xs) = ap (λ ns. handle_number x ∷ ns) (numbers-joined Fifo tx xs)
 numbers-joined Lifo tx xs = refl
@@ -108,7 +108,7 @@ module _ (m : Configuration) (tx : Tx) (link : Link) (order : LinkOrder) (is : l
       ∙ ap (λ (ns : List (List ℕ)). record (state_of m) { transactions = put_chain tx.number (Some link.chain) m.transactions.txs; lists = record (lists_of m) { active = None; user_chains = ns } })
       (lists-put handle_number m.chains.lists us.lists link.chain (joined_at order tx) changes
       ∙ ap (put [] (map (map handle_number) m.chains.lists) link.chain)
-      (numbers-joined order tx (at [] m.chains.lists link.chain) ∙ ap (λ o. linked o tx.number (map handle_number (at [] m.chains.lists link.chain))) (sym is) ∙ ap (linked link.order tx.number) (sym (user_chain-at m link.chain))))
+      (numbers-joined order tx (at [] m.chains.lists link.chain) ∙ ap (λ o. link_in o tx.number (map handle_number (at [] m.chains.lists link.chain))) (sym is) ∙ ap (link_in link.order tx.number) (sym (user_chain-at m link.chain))))
 
   pub joins : (state_of (with_others m None q m.current_events us) ≡ joins_chain tx.number link (state_of m)) × (q.last ≡ m.transactions.last)
   joins = (state-joins, kept.last)
@@ -214,10 +214,10 @@ module _ (m : Configuration) (l : Linked m) (c target : ℕ) (there : c < length
             (subst ResidesOnce (sym state-leaves) (resides-unlinked c target tx.number t (map handle_number (rest (at [] m.chains.lists c))) (state_of m) first-number l.resides))
 
 -- one member, and then the rest
-pub unlinked-next : (k c target : ℕ) (s : State) → unlinked (suc k) c target s ≡ unlinked k c target (first_unlinked c target (user_chain c s) s)
-unfolding unlinked
+pub unlinked-next : (k c target : ℕ) (s : State) → unlink_members (suc k) c target s ≡ unlink_members k c target (first_unlinked c target (user_chain c s) s)
+unfolding unlink_members
 unlinked-next k c target s = refl
 
-pub unlinked-none : (c target : ℕ) (s : State) → unlinked 0 c target s ≡ s
-unfolding unlinked
+pub unlinked-none : (c target : ℕ) (s : State) → unlink_members 0 c target s ≡ s
+unfolding unlink_members
 unlinked-none c target s = refl

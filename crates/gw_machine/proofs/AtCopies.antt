@@ -17,7 +17,7 @@ use Rattle.gw_machine.specs.Configuration.{Configuration}
 use Rattle.gw_step.specs.State.{State, priority_of, priority_in}
 use Rattle.gw_step.specs.Times.{parameters_of}
 use Rattle.gw_step.specs.Residence.{ResidesOnce}
-use Rattle.gw_step.specs.Changes.{entered, with_copy, copied, copies_made}
+use Rattle.gw_step.specs.Changes.{enter_next, with_copy, copy_to, copies_made}
 use Rattle.gw_step.proofs.Attributes.{bearer_at, written_at}
 use Rattle.gw_step.proofs.Lists.{all_placed, map-behind}
 use Rattle.gw_step.proofs.Residence.{resides-entered, resides-copied}
@@ -53,14 +53,14 @@ module _ (m : Configuration) (l : Linked m) (n : ℕ) (t : Transaction) (block :
   carried : (xs : List Member) → AllByRecursion (IsRanked m.transactions) xs → AllByRecursion (IsRanked q) xs
   carried xs = members_carried Every m.transactions q carries xs (every number_of xs)
 
-  pub state-copied : record (state_of m) { transactions = q.txs; lists = record (lists_of m) { current_events = map member_number cs } } ≡ copied n t target (state_of m)
+  pub state-copied : record (state_of m) { transactions = q.txs; lists = record (lists_of m) { current_events = map member_number cs } } ≡ copy_to n t target (state_of m)
   state-copied =
       ap (λ (ns : List ℕ). record (state_of m) { transactions = q.txs; lists = record (lists_of m) { current_events = ns } })
       (ap (map member_number) joined ∙ map-behind member_number (λ (x : Member). x.priority) (priority_of q.txs) newcomer m.current_events.items (sym newcomer-rank) (agree q m.current_events.items (carried m.current_events.items l.current_events))
       ∙ ap (λ k. behind (priority_of q.txs) k (map member_number m.current_events.items)) ns)
       ∙ ap (λ (xs : List (Option LiveTransaction)). record (state_of m) { transactions = xs; lists = record (lists_of m) { current_events = behind (priority_of xs) (length m.transactions.txs) (map member_number m.current_events.items) } }) ts
 
-  pub linked-copied : (new : Configuration) → new.transactions ≡ q → IsSound q → new.active ≡ m.active → new.current_events.items ≡ cs → new.future_events.items ≡ m.future_events.items → Keeps m new → state_of new ≡ copied n t target (state_of m) → Linked new
+  pub linked-copied : (new : Configuration) → new.transactions ≡ q → IsSound q → new.active ≡ m.active → new.current_events.items ≡ cs → new.future_events.items ≡ m.future_events.items → Keeps m new → state_of new ≡ copy_to n t target (state_of m) → Linked new
   linked-copied new is_q sound a c fs k is =
       let p = m.transactions in
       record {
@@ -80,13 +80,13 @@ module _ (m : Configuration) (l : Linked m) (n : ℕ) (t : Transaction) (block :
       }
 
 -- the parameters of one that was there already
-pub parameters-copied : (n : ℕ) (t : Transaction) (target : ℕ) (s : State) (u : LiveTransaction) → at None s.transactions n ≡ Some u → parameters_of n (copied n t target s) ≡ parameters_of n s
+pub parameters-copied : (n : ℕ) (t : Transaction) (target : ℕ) (s : State) (u : LiveTransaction) → at None s.transactions n ≡ Some u → parameters_of n (copy_to n t target s) ≡ parameters_of n s
 parameters-copied n t target s u there =
     ap (λ (o : Option LiveTransaction). option_map_or (λ (v : LiveTransaction). v.parameters) o no_parameters)
     (at-put_past s.transactions (length s.transactions) n (Some (made_with (parameters_of n s) (record t { next = target }))) u (omega arith) there ∙ sym there)
 
 -- and of one that enters
-pub parameters-entered : (n : ℕ) (t : Transaction) (next : ℕ) (s : State) → parameters_of n (entered n t next s) ≡ parameters_of n s
+pub parameters-entered : (n : ℕ) (t : Transaction) (next : ℕ) (s : State) → parameters_of n (enter_next n t next s) ≡ parameters_of n s
 parameters-entered n t next s =
     ap (λ (o : Option LiveTransaction). option_map_or (λ (v : LiveTransaction). v.parameters) o no_parameters)
     (at-put None s.transactions n (option_map (with_attributes (record t { current = t.next; next = next })) (at None s.transactions n)))
@@ -97,7 +97,7 @@ parameters-entered n t next s =
     by_option (Some u) = refl
 
 -- one copy, and then the rest
-pub copies-next : (k n : ℕ) (t : Transaction) (target : ℕ) (s : State) → copies_made (suc k) n t target s ≡ copies_made k n t target (copied n t target s)
+pub copies-next : (k n : ℕ) (t : Transaction) (target : ℕ) (s : State) → copies_made (suc k) n t target s ≡ copies_made k n t target (copy_to n t target s)
 unfolding copies_made
 copies-next k n t target s = refl
 
@@ -123,7 +123,7 @@ popped-length (y ∷ ys) last = ap suc (popped-length ys last)
 pub linked-ranked : (m new : Configuration) (tx : Tx) (t : Transaction) (next : ℕ)
     → new.transactions.txs ≡ put_attributes tx.number (record t { current = t.next; next = next }) m.transactions.txs → new.transactions.places ≡ m.transactions.places → new.transactions.last ≡ m.transactions.last → IsSound new.transactions
     → m.active ≡ Some tx → Holds m.transactions tx → new.active ≡ m.active → new.current_events.items ≡ m.current_events.items → new.future_events.items ≡ m.future_events.items → Keeps m new
-    → state_of new ≡ entered tx.number t next (state_of m) → t.next ≤ 4096 → Linked m → Linked new
+    → state_of new ≡ enter_next tx.number t next (state_of m) → t.next ≤ 4096 → Linked m → Linked new
 linked-ranked m new tx t next ts ps ls sound is_active held a cs fs k is block l =
     let n = tx.number in
     let p = m.transactions in

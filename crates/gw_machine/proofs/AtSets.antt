@@ -13,7 +13,7 @@ use Rattle.gw_transactions.specs.Transactions.{LiveTransaction, Holds, attribute
 use Rattle.gw_machine.specs.Configuration.{Configuration}
 use Rattle.gw_step.specs.State.{Assembly, State, priority_of, priority_in}
 use Rattle.gw_step.specs.Residence.{ResidesOnce}
-use Rattle.gw_step.specs.Changes.{is_of, assembled, one_fewer, come_to}
+use Rattle.gw_step.specs.Changes.{is_of, assemble_all, one_fewer, come_to}
 use Rattle.gw_step.specs.Blocks.{assembly_at, joined_by_one}
 use Rattle.gw_machine.specs.View.{state_of, lists_of, member_number, assembly_of}
 use Rattle.gw_machine.specs.Coherence.{Linked, IsRanked, IsHeldBy}
@@ -93,7 +93,7 @@ same_of f (Some x) a b h is = cc
 
 -- where more are to come, who waits goes on waiting
 pub more-come : (a : Assembly) (s : State) → 1 < a.missing → joined_by_one a s ≡ come_to a s
-more-come a s more = ap (λ b. if b then assembled a s else come_to a s) (lt-leb a.missing 1 more)
+more-come a s more = ap (λ b. if b then assemble_all a s else come_to a s) (lt-leb a.missing 1 more)
 
 -- an assembly is found as its state's is
 pub assembly-found : (m : Configuration) (block set : ℕ) → option_map assembly_of (find (is_held_of block set) m.assemblies.items) ≡ assembly_at block set (state_of m)
@@ -142,16 +142,16 @@ module _ (m : Configuration) (l : Linked m) (a : HeldAssembly) (there : assembly
     abbrev newcomer : Member
     newcomer = record { tx = b.first; priority = priority }
 
-    pub state-assembled : record (state_of m) { lists = record (lists_of m) { current_events = map member_number cs; assemblies = map assembly_of sets } } ≡ assembled (assembly_of a) (state_of m)
+    pub state-assembled : record (state_of m) { lists = record (lists_of m) { current_events = map member_number cs; assemblies = map assembly_of sets } } ≡ assemble_all (assembly_of a) (state_of m)
     state-assembled =
         ap (λ (ns : List ℕ). record (state_of m) { lists = record (lists_of m) { current_events = ns; assemblies = map assembly_of sets } })
         (ap (map member_number) joined ∙ map-behind member_number (λ (x : Member). x.priority) (priority_of m.transactions.txs) newcomer m.current_events.items (sym rank) (agree m.transactions m.current_events.items l.current_events)
         ∙ ap (λ n. behind (priority_of m.transactions.txs) n (map member_number m.current_events.items)) (waiter-number b is))
-        ∙ ap (λ (xs : List Assembly). record (assembled (assembly_of a) (state_of m)) { lists = record (assembled (assembly_of a) (state_of m)).lists { assemblies = xs } })
+        ∙ ap (λ (xs : List Assembly). record (assemble_all (assembly_of a) (state_of m)) { lists = record (assemble_all (assembly_of a) (state_of m)).lists { assemblies = xs } })
         (ap (map assembly_of) left ∙ map-without_first assembly_of (is_of a.block a.set) m.assemblies.items)
 
     pub linked-assembled : (new : Configuration) → new.transactions ≡ m.transactions → new.active ≡ m.active → new.current_events.items ≡ cs → new.future_events ≡ m.future_events → new.waits ≡ m.waits → new.assemblies.items ≡ sets → new.chains ≡ m.chains
-        → new.entities ≡ m.entities → new.clock ≡ m.clock → state_of new ≡ assembled (assembly_of a) (state_of m) → Linked new
+        → new.entities ≡ m.entities → new.clock ≡ m.clock → state_of new ≡ assemble_all (assembly_of a) (state_of m) → Linked new
     linked-assembled new ts active c fs w s chs entities clock now =
         linked-members m new ts (rw active l.active)
         (rw (c, joined) (all_placed (IsRanked m.transactions) (λ (y : Member). int_le priority y.priority) newcomer m.current_events.items (record { held = waiter-held b is; rank = rank }) l.current_events))

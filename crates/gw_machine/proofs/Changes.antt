@@ -13,9 +13,9 @@ use Rattle.gw_transactions.specs.Transactions.{LiveTransaction, Population, put_
 use Rattle.gw_num.proofs.Tables.{at-put, set-put, at-get_or_any, at-map}
 use Rattle.gw_transactions.proofs.Populations.{transaction_of}
 use Rattle.gw_machine.specs.Configuration.{Configuration}
-use Rattle.gw_step.specs.State.{FutureEvent, Assembly, priority_of, raised, delay_list, user_chain}
+use Rattle.gw_step.specs.State.{FutureEvent, Assembly, priority_of, with_one_more_at, delay_list, user_chain}
 use Rattle.gw_step.specs.Residence.{ResidesOnce, occurrences}
-use Rattle.gw_step.specs.Changes.{entered, assigned, destroyed, rests_until, arrives}
+use Rattle.gw_step.specs.Changes.{enter_next, assign_to, destroy, rests_until, arrives}
 use Rattle.gw_machine.specs.View.{state_of, lists_of, event_of, handle_number, member_number, assembly_of}
 use Rattle.gw_machine.specs.Coherence.{Linked, IsHeld, CanRest, Carries, Every, Others}
 use Rattle.gw_step.proofs.Lists.{all_placed, map-placed, all_same, map-map}
@@ -23,7 +23,7 @@ use Rattle.gw_step.proofs.Residence.{resides-entered, resides-assigned, resides-
 use Rattle.gw_machine.proofs.Handles.{active_carried, members_carried, events_carried, assemblies_carried, handles_carried, every, others, carries-set, carries-assign, carries-same, carries-insert, carries-remove}
 
 -- one more at a place, as the code writes it
-pub raised_is : (counts : List ℕ) (place was : ℕ) → place < length counts → was ≡ get_or counts place was → slice_set counts place (was + 1) ≡ raised place counts
+pub raised_is : (counts : List ℕ) (place was : ℕ) → place < length counts → was ≡ get_or counts place was → slice_set counts place (was + 1) ≡ with_one_more_at place counts
 raised_is counts place was within is =
     set-put 0 counts place (was + 1) within
     ∙ ap (λ n. put 0 counts place (n + 1)) (is ∙ sym (at-get_or_any 0 was counts place within))
@@ -114,7 +114,7 @@ linked-apart m new n active c sound a cs fs k resides l =
 pub linked-entered : (m new : Configuration) (tx : Tx) (t : Transaction) (next : ℕ)
     → new.transactions.txs ≡ put_attributes tx.number (record t { current = t.next; next = next }) m.transactions.txs → new.transactions.places ≡ m.transactions.places → new.transactions.last ≡ m.transactions.last → IsSound new.transactions
     → new.active ≡ m.active → new.current_events.items ≡ m.current_events.items → new.future_events.items ≡ m.future_events.items → Keeps m new
-    → state_of new ≡ entered tx.number t next (state_of m) → t.next ≤ 4096 → priority_of m.transactions.txs tx.number ≡ t.priority → Linked m → Linked new
+    → state_of new ≡ enter_next tx.number t next (state_of m) → t.next ≤ 4096 → priority_of m.transactions.txs tx.number ≡ t.priority → Linked m → Linked new
 linked-entered m new tx t next ts ps ls sound a cs fs k is block pr l =
     linked-carried m new (carries-set m.transactions new.transactions tx.number (record t { current = t.next; next = next }) ts ps block pr ls) sound a cs fs k
     (subst ResidesOnce (sym is) (resides-entered tx.number t next (state_of m) l.resides)) l
@@ -122,7 +122,7 @@ linked-entered m new tx t next ts ps ls sound a cs fs k is block pr l =
 pub linked-assigned : (m new : Configuration) (tx : Tx) (k : ℕ) (value : ℤ)
     → new.transactions.txs ≡ put_parameter tx.number k value m.transactions.txs → new.transactions.places ≡ m.transactions.places → new.transactions.last ≡ m.transactions.last → IsSound new.transactions
     → new.active ≡ m.active → new.current_events.items ≡ m.current_events.items → new.future_events.items ≡ m.future_events.items → Keeps m new
-    → state_of new ≡ assigned tx.number k value (state_of m) → Linked m → Linked new
+    → state_of new ≡ assign_to tx.number k value (state_of m) → Linked m → Linked new
 linked-assigned m new tx k value ts ps ls sound a cs fs keeps is l =
     linked-carried m new (carries-assign m.transactions new.transactions tx.number k value ts ps ls) sound a cs fs keeps
     (subst ResidesOnce (sym is) (resides-assigned tx.number k value (state_of m) l.resides)) l
@@ -143,7 +143,7 @@ linked-reserved m q cs ts ps ls sound items l =
 pub linked-destroyed : (m new : Configuration) (tx : Tx)
     → new.transactions.txs ≡ put None m.transactions.txs tx.number None → new.transactions.places ≡ put None m.transactions.places tx.number None → new.transactions.last ≡ m.transactions.last → IsSound new.transactions
     → Linked m → CanRest m tx → new.active ≡ None → new.current_events.items ≡ m.current_events.items → new.future_events.items ≡ m.future_events.items → Keeps m new
-    → state_of new ≡ destroyed tx.number (state_of m) → Linked new
+    → state_of new ≡ destroy tx.number (state_of m) → Linked new
 linked-destroyed m new tx ts ps ls sound l r a cs fs k is =
     let n = tx.number in
     let u = transaction_of m.transactions l.sound tx r.held in

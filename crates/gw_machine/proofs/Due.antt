@@ -12,7 +12,7 @@ use Rattle.gw_step.specs.State.{FutureEvent, EntityStates, priority_of}
 use Rattle.gw_step.specs.Residence.{ResidesOnce}
 use Rattle.gw_step.specs.Changes.{time_passes, clock_moves, numbers}
 use Rattle.gw_machine.specs.View.{state_of, lists_of, event_of, member_number}
-use Rattle.gw_machine.specs.Coherence.{Linked, IsRanked, IsHeld, ranked}
+use Rattle.gw_machine.specs.Coherence.{Linked, IsRanked, IsHeld, as_members}
 use Rattle.gw_step.proofs.Lists.{all_map, all_due, all_later, all_all_behind, map-all_behind, map-due, map-later, map-map}
 use Rattle.gw_step.proofs.Residence.{resides-clock}
 
@@ -20,11 +20,11 @@ priority : Member → ℤ
 priority m = m.priority
 
 module _ (p : Population) where
-  all_ranked : (es : List Event) → AllByRecursion (IsHeld p) es → AllByRecursion (IsRanked p) (ranked p es)
+  all_ranked : (es : List Event) → AllByRecursion (IsHeld p) es → AllByRecursion (IsRanked p) (as_members p es)
   all_ranked [] h = tt
   all_ranked (e ∷ es) h = (record { held = h.0; rank = refl }, all_ranked es h.1)
 
-  numbers-ranked : (es : List Event) → map member_number (ranked p es) ≡ map (λ (e : Event). e.tx.number) es
+  numbers-ranked : (es : List Event) → map member_number (as_members p es) ≡ map (λ (e : Event). e.tx.number) es
   numbers-ranked [] = refl
   numbers-ranked (e ∷ es) = ap (λ ns. e.tx.number ∷ ns) (numbers-ranked es)
 
@@ -37,20 +37,20 @@ module _ (p : Population) where
       ∙ ap numbers (map-due event_of (λ (e : Event). e.time) (λ (e : FutureEvent). e.time) time es (λ x. refl))
 
   pub numbers-joined : (time : ℤ) (es : List Event) (cec : List Member) → AllByRecursion (IsHeld p) es → AllByRecursion (IsRanked p) cec
-      → map member_number (all_behind (λ (m : Member). m.priority) (ranked p (due (λ (e : Event). e.time) time es)) cec) ≡ all_behind (priority_of p.txs) (numbers (due (λ (e : FutureEvent). e.time) time (map event_of es))) (map member_number cec)
+      → map member_number (all_behind (λ (m : Member). m.priority) (as_members p (due (λ (e : Event). e.time) time es)) cec) ≡ all_behind (priority_of p.txs) (numbers (due (λ (e : FutureEvent). e.time) time (map event_of es))) (map member_number cec)
   numbers-joined time es cec held rank =
       let soon = due (λ (e : Event). e.time) time es in
-      map-all_behind member_number (λ (m : Member). m.priority) (priority_of p.txs) (ranked p soon) cec (agree (ranked p soon) (all_ranked soon (all_due (IsHeld p) (λ (e : Event). e.time) time es held))) (agree cec rank)
+      map-all_behind member_number (λ (m : Member). m.priority) (priority_of p.txs) (as_members p soon) cec (agree (as_members p soon) (all_ranked soon (all_due (IsHeld p) (λ (e : Event). e.time) time es held))) (agree cec rank)
       ∙ ap (λ ns. all_behind (priority_of p.txs) ns (map member_number cec)) (numbers-ranked soon ∙ numbers-due time es)
 
   pub ranked-joined : (time : ℤ) (es : List Event) (cec : List Member) → AllByRecursion (IsHeld p) es → AllByRecursion (IsRanked p) cec
-      → AllByRecursion (IsRanked p) (all_behind (λ (m : Member). m.priority) (ranked p (due (λ (e : Event). e.time) time es)) cec)
+      → AllByRecursion (IsRanked p) (all_behind (λ (m : Member). m.priority) (as_members p (due (λ (e : Event). e.time) time es)) cec)
   ranked-joined time es cec held rank =
       let soon = due (λ (e : Event). e.time) time es in
-      all_all_behind (IsRanked p) (λ (m : Member). m.priority) (ranked p soon) cec (all_ranked soon (all_due (IsHeld p) (λ (e : Event). e.time) time es held)) rank
+      all_all_behind (IsRanked p) (λ (m : Member). m.priority) (as_members p soon) cec (all_ranked soon (all_due (IsHeld p) (λ (e : Event). e.time) time es held)) rank
 
 module _ (m : Configuration) (time : ℤ) (cs : List Member) (fs : List Event) (g : EntityStates) (l : Linked m)
-    (joined : cs ≡ all_behind (λ (x : Member). x.priority) (ranked m.transactions (due (λ (e : Event). e.time) time m.future_events.items)) m.current_events.items)
+    (joined : cs ≡ all_behind (λ (x : Member). x.priority) (as_members m.transactions (due (λ (e : Event). e.time) time m.future_events.items)) m.current_events.items)
     (left : fs ≡ later (λ (e : Event). e.time) time m.future_events.items)
     (passed : g ≡ time_passes (unsigned_abs (time -ℤ m.clock)) (states_of m.entities)) where
   pub state-moved : record (state_of m) { clock = time; entities = g; lists = record (lists_of m) { current_events = map member_number cs; future_events = map event_of fs } } ≡ clock_moves time (state_of m)

@@ -26,7 +26,7 @@ use Rattle.gw_operands.specs.declared.ends.PlusEnd.{PlusEnd}
 use Rattle.gw_operands.specs.Code.{procedure_at, asked_by_source}
 use Rattle.gw_operands.specs.Environment.{Environment, kept_value, ReadTheSame}
 use Rattle.gw_rules.specs.PlusLaws.{HasSet, MayBegin}
-use Rattle.gw_operands.specs.Meaning.{Evaluates, opening}
+use Rattle.gw_operands.specs.Meaning.{Evaluates, opening_frame}
 use Rattle.gw_operands.specs.Outcome.{outcome_of}
 use Rattle.gw_rules.proofs.PlusTheorems.{one_outcome_law, outcomes_are_evaluated_law}
 use Rattle.gw_rules.proofs.Within.{outcomes_depend_on_what_is_kept}
@@ -40,7 +40,7 @@ use Rattle.gw_transactions.specs.Transactions.{LiveTransaction, parameter_at}
 use Rattle.gw_transactions.specs.Parameters.{no_parameters}
 use Rattle.gw_step.specs.State.{State}
 use Rattle.gw_step.specs.Times.{parameters_of}
-use Rattle.gw_machine.specs.Evaluating.{valued}
+use Rattle.gw_machine.specs.Evaluating.{value_outcome}
 
 -- PARAMETERS
 
@@ -134,20 +134,20 @@ module _ (p : Parts) (env : Env) (a : Environment) (same : ReadTheSame (lent.env
   -- WHAT SOURCES COME TO
 
   -- what a procedure comes to
-  pub procedure-value : HasSpelling p → Checked p → (bound q : ℕ) (streams : List ℕ) (r : Result ℤ PlusEnd) → lent.CanEvaluate p (lent.environment_of env) q → Evaluates p (lent.environment_of env) q [] r → source_value p a bound (Procedure q) streams ≡ valued r streams
+  pub procedure-value : HasSpelling p → Checked p → (bound q : ℕ) (streams : List ℕ) (r : Result ℤ PlusEnd) → lent.CanEvaluate p (lent.environment_of env) q → Evaluates p (lent.environment_of env) q [] r → source_value p a bound (Procedure q) streams ≡ value_outcome r streams
   procedure-value fits checked bound q streams r can evaluated =
       let may : MayBegin p (lent.environment_of env) q can.0 [] = record { there = can.1; arguments = sym can.2; needs = can.3 } in
       let one = outcomes_are_evaluated_law p (lent.environment_of env) q can.0 fits (kinds_pass p checked) (plus_passes p checked) may in
-      let is = (one_outcome_law p (lent.environment_of env) q (opening (procedure_at p q) []) one.2.0 evaluated.0 one.0 r one.2.1 evaluated.1).1 in
+      let is = (one_outcome_law p (lent.environment_of env) q (opening_frame (procedure_at p q) []) one.2.0 evaluated.0 one.0 r one.2.1 evaluated.1).1 in
       let outcome : outcome_of p a q ≡ Some r = sym (outcomes_depend_on_what_is_kept p (lent.environment_of env) a q same) ∙ one.1 ∙ ap Some is in
       ap (λ answer. came_to answer >>= λ value. Value (value, streams)) outcome ∙ came r
     where
-      came : (r : Result ℤ PlusEnd) → (came_to (Some r) >>= λ value. Value (value, streams)) ≡ valued r streams
+      came : (r : Result ℤ PlusEnd) → (came_to (Some r) >>= λ value. Value (value, streams)) ≡ value_outcome r streams
       came (Ok value) = refl
       came (Err end) = refl
 
   -- what is kept
-  pub kept-value : (bound : ℕ) (o : Operand) (streams : List ℕ) (value : ℤ) → kept_value (lent.environment_of env) o ≡ Some value → ((j : ℕ) → o ≢ Random j) → ((q : ℕ) → o ≢ Procedure q) → source_value p a bound o streams ≡ valued (Ok value) streams
+  pub kept-value : (bound : ℕ) (o : Operand) (streams : List ℕ) (value : ℤ) → kept_value (lent.environment_of env) o ≡ Some value → ((j : ℕ) → o ≢ Random j) → ((q : ℕ) → o ≢ Procedure q) → source_value p a bound o streams ≡ value_outcome (Ok value) streams
   kept-value bound (Random j) streams value is not_drawn not_called = absurd (not_drawn j refl)
   kept-value bound (Procedure q) streams value is not_drawn not_called = absurd (not_called q refl)
   kept-value bound o streams value is not_drawn not_called = ap (λ v. if_set v >>= λ x. Value (x, streams)) (sym (same.kept o) ∙ is)

@@ -8,20 +8,20 @@ use Rattle.gw_num.specs.Table.{at, put}
 use Rattle.gw_num.proofs.Tables.{at-put, at-put_other}
 use Rattle.gw_transactions.specs.declared.Transaction.{Transaction}
 use Rattle.gw_transactions.specs.Transactions.{LiveTransaction, attributes_at, put_attributes, put_parameter, with_parameter, put_chain, with_chain}
-use Rattle.gw_step.specs.State.{State, delay_list, user_chain, priority_of, raised, without}
+use Rattle.gw_step.specs.State.{State, delay_list, user_chain, priority_of, with_one_more_at, without}
 use Rattle.gw_step.specs.Residence.{ResidesOnce, occurrences, occurrences_in}
-use Rattle.gw_step.specs.Changes.{entered, waits_for, called_from}
+use Rattle.gw_step.specs.Changes.{enter_next, waits_for, called_from}
 use Rattle.gw_step.proofs.Lists.{occurrences-placed}
 use Rattle.gw_step.proofs.Residence.{alone, at-le-sum, same_number, other_number, at_most_one, one_if, occurrences-one}
 use Rattle.gw_members.specs.Chain.{first, behind, placed_behind}
 use Rattle.gw_members.specs.declared.tx.Tx.{Tx}
-use Rattle.gw_step.specs.Turning.{turned}
+use Rattle.gw_step.specs.Turning.{turn_to}
 use Rattle.gw_machine.specs.Configuration.{Configuration}
 use Rattle.gw_machine.specs.View.{state_of}
 use Rattle.gw_machine.proofs.Changes.{user_chain-at}
 use Rattle.gw_machine.proofs.AtChains.{begins-with}
 use Rattle.gw_machine.specs.declared.wants.Want.{Want}
-use Rattle.gw_machine.specs.Wants.{nobody, counted_at, wanting, AreTold, ArePast, CountsEntry, JoinsIfKnown, LeavesIfKnown, KeepsOthers, next_in, next_of, nexts, IsCounted, IsKnown, AreKnown}
+use Rattle.gw_machine.specs.Wants.{nobody, counted_at, want_count, AreTold, ArePast, CountsEntry, JoinsIfKnown, LeavesIfKnown, KeepsOthers, next_in, next_of, nexts, IsCounted, IsKnown, AreKnown}
 
 -- NEXT BLOCKS
 
@@ -119,7 +119,7 @@ module _ (e : ℕ) (s new : State) where
         counted = λ told b. omega (arith, c.wanting b, k.counted (c.told s.entries is (subst (λ es. AreTold es us) same told)) b, fewer b);
       })
 
-  list-entered : (ws us : List Want) (block entries : ℕ) → at 0 s.entries block ≡ entries → new.entries ≡ raised block s.entries → nexts e new ≡ nexts e s
+  list-entered : (ws us : List Want) (block entries : ℕ) → at 0 s.entries block ≡ entries → new.entries ≡ with_one_more_at block s.entries → nexts e new ≡ nexts e s
       → CountsEntry block entries ws us → IsKnown ws e s → IsKnown us e new
   list-entered [] [] block entries is rise same c k = tt
   list-entered [] (u ∷ us) block entries is rise same c k = absurd (omega (arith, c.many))
@@ -133,7 +133,7 @@ module _ (e : ℕ) (s new : State) where
 abbrev IsWantedAt : ℕ → List Want → Type 0
 IsWantedAt b ws = (i : ℕ) × ((at nobody ws i).block ≡ b) × (0 < (at nobody ws i).waiting)
 
-wanted-first : (b : ℕ) (w : Want) (ws : List Want) → (0 < wanting b ws → IsWantedAt b ws) → 0 < counted_at b w + wanting b ws → IsWantedAt b (w ∷ ws)
+wanted-first : (b : ℕ) (w : Want) (ws : List Want) → (0 < want_count b ws → IsWantedAt b ws) → 0 < counted_at b w + want_count b ws → IsWantedAt b (w ∷ ws)
 wanted-first b w ws others some = elim (cases_eq w.block b) [
   | inl same ↦ by_count w.waiting refl same
   | inr other ↦ later (rw (ne_eqb w.block b other) refl)
@@ -147,13 +147,13 @@ wanted-first b w ws others some = elim (cases_eq w.block b) [
         let r = others (let none : counted_at b w ≡ w.waiting = rw (eq-eqb w.block b same) refl in omega (arith, some, none, is)) in (suc r.0, r.1, r.2)
     by_count (suc n) is same = (0, same, omega (arith, is))
 
-wanted-at : (b : ℕ) (ws : List Want) → 0 < wanting b ws → IsWantedAt b ws
+wanted-at : (b : ℕ) (ws : List Want) → 0 < want_count b ws → IsWantedAt b ws
 wanted-at b [] some = absurd (omega (arith, some))
 wanted-at b (w ∷ ws) some = wanted-first b w ws (λ more. wanted-at b ws more) (omega (arith, some, sum_by-cons (counted_at b) w ws))
 
-risen : (es : List ℕ) (block b : ℕ) → at 0 es b ≤ at 0 (raised block es) b
+risen : (es : List ℕ) (block b : ℕ) → at 0 es b ≤ at 0 (with_one_more_at block es) b
 risen es block b = elim (cases_eq b block) [
-  | inl same ↦ omega (arith, ap (λ k. at 0 (raised block es) k) same, at-put 0 es block (at 0 es block + 1), ap (at 0 es) same)
+  | inl same ↦ omega (arith, ap (λ k. at 0 (with_one_more_at block es) k) same, at-put 0 es block (at 0 es block + 1), ap (at 0 es) same)
   | inr other ↦ omega (arith, at-put_other 0 es block b (at 0 es block + 1) other)
 ]
 
@@ -186,14 +186,14 @@ module _ (known : List (List Want)) where
   known-by s new same lists entries k = known-nexts s new (λ j. ap (λ ts. next_of ts j) same) lists entries k
 
   -- who is on no delay list enters its next block
-  pub known-entered : (n : ℕ) (t : Transaction) (next : ℕ) (s : State) → ((e : ℕ) → occurrences n (delay_list e s) ≡ 0) → AreKnown known s → AreKnown known (entered n t next s)
+  pub known-entered : (n : ℕ) (t : Transaction) (next : ℕ) (s : State) → ((e : ℕ) → occurrences n (delay_list e s) ≡ 0) → AreKnown known s → AreKnown known (enter_next n t next s)
   known-entered n t next s none k =
-      known-kept s (entered n t next s)
-      (λ e. nexts-apart n s.transactions (entered n t next s).transactions (put-same n s.transactions _) (delay_list e s) (none e))
+      known-kept s (enter_next n t next s)
+      (λ e. nexts-apart n s.transactions (enter_next n t next s).transactions (put-same n s.transactions _) (delay_list e s) (none e))
       (risen s.entries t.next) k
 
   -- so does anybody whose attributes are known: who waits is told of, since its block has one more entry
-  list-found : (n : ℕ) (t : Transaction) (next e : ℕ) (s : State) (ws : List Want) → attributes_at n s.transactions ≡ Some t → 0 < occurrences n (delay_list e s) → IsKnown ws e s → IsKnown ws e (entered n t next s)
+  list-found : (n : ℕ) (t : Transaction) (next e : ℕ) (s : State) (ws : List Want) → attributes_at n s.transactions ≡ Some t → 0 < occurrences n (delay_list e s) → IsKnown ws e s → IsKnown ws e (enter_next n t next s)
   list-found n t next e s [] found some k = tt
   list-found n t next e s (w ∷ ws) found some k =
       let es = s.entries in record {
@@ -202,16 +202,16 @@ module _ (known : List (List Want)) where
             let before : AreTold es (w ∷ ws) = λ i some. let now = told i some in omega (arith, now, k.past i, risen es t.next (at nobody (w ∷ ws) i).block) in
             let waits : 0 < occurrences t.next (nexts e s) = subst (λ j. 0 < occurrences j (nexts e s)) (next-found n s.transactions t found) (next-occurs (next_of s.transactions) n (delay_list e s) some) in
             let at_i = wanted-at t.next (w ∷ ws) (omega (arith, waits, k.counted before t.next)) in
-            absurd (omega (arith, told at_i.0 at_i.2, k.past at_i.0, ap (λ j. at 0 (raised t.next es) j) at_i.1, ap (at 0 es) at_i.1, at-put 0 es t.next (at 0 es t.next + 1)));
+            absurd (omega (arith, told at_i.0 at_i.2, k.past at_i.0, ap (λ j. at 0 (with_one_more_at t.next es) j) at_i.1, ap (at 0 es) at_i.1, at-put 0 es t.next (at 0 es t.next + 1)));
       }
 
-  pub known-found : (n : ℕ) (t : Transaction) (next : ℕ) (s : State) → attributes_at n s.transactions ≡ Some t → AreKnown known s → AreKnown known (entered n t next s)
+  pub known-found : (n : ℕ) (t : Transaction) (next : ℕ) (s : State) → attributes_at n s.transactions ≡ Some t → AreKnown known s → AreKnown known (enter_next n t next s)
   known-found n t next s found k e = by_count (occurrences n (delay_list e s)) refl
     where
-      by_count : (m : ℕ) → occurrences n (delay_list e s) ≡ m → IsKnown (at [] known e) e (entered n t next s)
+      by_count : (m : ℕ) → occurrences n (delay_list e s) ≡ m → IsKnown (at [] known e) e (enter_next n t next s)
       by_count zero none =
-          list-kept e s (entered n t next s) (at [] known e)
-          (nexts-apart n s.transactions (entered n t next s).transactions (put-same n s.transactions _) (delay_list e s) none)
+          list-kept e s (enter_next n t next s) (at [] known e)
+          (nexts-apart n s.transactions (enter_next n t next s).transactions (put-same n s.transactions _) (delay_list e s) none)
           (risen s.entries t.next) (k e)
       by_count (suc m) some = list-found n t next e s (at [] known e) found (omega (arith, some)) (k e)
 
@@ -248,16 +248,16 @@ module _ (known knew : List (List Want)) (e : ℕ) (others : KeepsOthers e known
           omega (arith, here, occurrences-without (next_of s.transactions) b n (delay_list e s) some, ap (λ i. one_if (i == b)) next)
 
   -- who was called from the list enters its next block
-  pub known-admitted : (n : ℕ) (t : Transaction) (next : ℕ) (s : State) (entries : ℕ) → at 0 s.entries t.next ≡ entries → ((k : ℕ) → occurrences n (delay_list k s) ≡ 0) → CountsEntry t.next entries (at [] known e) (at [] knew e) → AreKnown known s → AreKnown knew (entered n t next s)
+  pub known-admitted : (n : ℕ) (t : Transaction) (next : ℕ) (s : State) (entries : ℕ) → at 0 s.entries t.next ≡ entries → ((k : ℕ) → occurrences n (delay_list k s) ≡ 0) → CountsEntry t.next entries (at [] known e) (at [] knew e) → AreKnown known s → AreKnown knew (enter_next n t next s)
   known-admitted n t next s entries is none c k j = elim (cases_eq j e) [
-    | inl same ↦ subst (λ i. IsKnown (at [] knew i) i (entered n t next s)) (sym same)
-        (list-entered e s (entered n t next s) (at [] known e) (at [] knew e) t.next entries is refl (kept e) c (k e))
-    | inr other ↦ subst (λ ws. IsKnown ws j (entered n t next s)) (sym (others j other))
-        (list-kept j s (entered n t next s) (at [] known j) (kept j) (risen s.entries t.next) (k j))
+    | inl same ↦ subst (λ i. IsKnown (at [] knew i) i (enter_next n t next s)) (sym same)
+        (list-entered e s (enter_next n t next s) (at [] known e) (at [] knew e) t.next entries is refl (kept e) c (k e))
+    | inr other ↦ subst (λ ws. IsKnown ws j (enter_next n t next s)) (sym (others j other))
+        (list-kept j s (enter_next n t next s) (at [] known j) (kept j) (risen s.entries t.next) (k j))
   ]
     where
-      kept : (j : ℕ) → nexts j (entered n t next s) ≡ nexts j s
-      kept j = nexts-apart n s.transactions (entered n t next s).transactions (put-same n s.transactions _) (delay_list j s) (none j)
+      kept : (j : ℕ) → nexts j (enter_next n t next s) ≡ nexts j s
+      kept j = nexts-apart n s.transactions (enter_next n t next s).transactions (put-same n s.transactions _) (delay_list j s) (none j)
 
   -- the list is counted anew
   pub known-counted : (s : State) → ((at [] knew e ≡ at [] known e) ⊎ IsKnown (at [] knew e) e s) → AreKnown known s → AreKnown knew s
@@ -284,7 +284,7 @@ called-there e n s new is =
     subst (λ (x : State). 1 ≤ occurrences n x.lists.current_events) (sym is) (placed-there n (λ y. int_le (rank n) (rank y)) s.lists.current_events)
 
 -- no more are counted than wait
-pub known-few : (ws : List Want) (e : ℕ) (s : State) (b : ℕ) → length (delay_list e s) ≤ 2 ^ 62 → AreTold s.entries ws → IsKnown ws e s → wanting b ws ≤ 2 ^ 62
+pub known-few : (ws : List Want) (e : ℕ) (s : State) (b : ℕ) → length (delay_list e s) ≤ 2 ^ 62 → AreTold s.entries ws → IsKnown ws e s → want_count b ws ≤ 2 ^ 62
 known-few [] e s b few told k = omega arith
 known-few (w ∷ ws) e s b few told k = omega (arith, k.counted told b, occurrences-few b (nexts e s), length-map (delay_list e s) (next_of s.transactions), few)
 
@@ -337,8 +337,8 @@ first-chained m c tx is =
     omega (arith, all, same_number tx.number tx.number refl)
 
 -- who is active turns
-pub known-turned : (known : List (List Want)) (n : ℕ) (t : Transaction) (next : ℕ) (s : State) → ((e : ℕ) → occurrences n (delay_list e s) ≡ 0) → AreKnown known s → AreKnown known (turned n t next s)
-known-turned known n t next s none k = known-apart known n s (turned n t next s) (put-same n s.transactions _) refl refl none k
+pub known-turned : (known : List (List Want)) (n : ℕ) (t : Transaction) (next : ℕ) (s : State) → ((e : ℕ) → occurrences n (delay_list e s) ≡ 0) → AreKnown known s → AreKnown known (turn_to n t next s)
+known-turned known n t next s none k = known-apart known n s (turn_to n t next s) (put-same n s.transactions _) refl refl none k
 
 -- all that was known is known of the active transaction's turn or entry, or nothing is
 pub forgotten-unless : (known knew : List (List Want)) (active : Option Tx) (tx : Tx) (s new : State) → s.lists.active ≡ option_map (λ (x : Tx). x.number) active → ResidesOnce s

@@ -7,7 +7,7 @@ use Rattle.std.proofs.lemmas.List.Sums.{sum_by-cons}
 use Rattle.gw_blocks.specs.declared.parts.Block.{Block}
 use Rattle.gw_blocks.specs.declared.parts.Units.{Units}
 use Rattle.gw_rules.specs.Kinds.{block_at}
-use Rattle.gw_step.specs.Blocks.{asked, admitted, looked_at, admission}
+use Rattle.gw_step.specs.Blocks.{units_asked, admit_by, looked_at, admission}
 use Rattle.gw_step.specs.Changes.{storage}
 use Rattle.gw_step.specs.State.{State, delay_list}
 use Rattle.gw_step.specs.Residence.{occurrences}
@@ -19,7 +19,7 @@ use Rattle.gw_machine.specs.Admission.{AsksInVain, AdmitsNobody, AllAskInVain}
 use Rattle.gw_machine.specs.declared.wants.Want.{Want}
 use Rattle.gw_machine.specs.declared.least.Least.{Least}
 use Rattle.gw_machine.specs.declared.least.Least.TheVariants.{Unknown, Nobody, Units as Asks}
-use Rattle.gw_machine.specs.Wants.{counted_at, wanting, IsTold, AreTold, next_of, nexts, IsWanted, IsLeast, lesser}
+use Rattle.gw_machine.specs.Wants.{counted_at, want_count, IsTold, AreTold, next_of, nexts, IsWanted, IsLeast, lesser}
 use Rattle.gw_num.specs.Table.{at}
 use Rattle.gw_machine.specs.Configuration.{Configuration}
 use Rattle.gw_machine.specs.View.{state_of, member_number}
@@ -42,7 +42,7 @@ told-more es w ws first rest (suc i) = rest i
 
 -- the least of what was least so far and what a want asks
 abbrev pub step : List Block → ℕ → Least → Want → Least
-step bs e least w = if w.waiting == 0 then least else lesser least (asked e (block_at bs w.block))
+step bs e least w = if w.waiting == 0 then least else lesser least (units_asked e (block_at bs w.block))
 
 -- the least of what was least so far and what these wants ask
 abbrev pub least_in : List Block → ℕ → List Want → Least → Least
@@ -81,18 +81,18 @@ module _ (bs : List Block) (e : ℕ) where
   counted-here : (w : Want) → counted_at w.block w ≡ w.waiting
   counted-here w = rw (eq-eqb w.block w.block refl) refl
 
-  same-asked : (w : Want) (b : ℕ) (u v : Units) → b ≡ w.block → asked e (block_at bs w.block) ≡ Some v → asked e (block_at bs b) ≡ Some u → u.number ≡ v.number
+  same-asked : (w : Want) (b : ℕ) (u v : Units) → b ≡ w.block → units_asked e (block_at bs w.block) ≡ Some v → units_asked e (block_at bs b) ≡ Some u → u.number ≡ v.number
   same-asked w b u v here asks also =
-      let both : Some u ≡ Some v = sym also ∙ ap (λ k. asked e (block_at bs k)) here ∙ asks in
+      let both : Some u ≡ Some v = sym also ∙ ap (λ k. units_asked e (block_at bs k)) here ∙ asks in
       ap (λ (o : Option Units). elim o [ None ↦ 0 | Some x ↦ x.number ]) both
 
   -- one more want is looked at
-  less : (f : ℕ → ℕ) (w : Want) → 0 < w.waiting → (least : Least) (o : Option Units) → asked e (block_at bs w.block) ≡ o → IsSaid least → IsLeast bs e f least → IsLeast bs e (λ k. f k + counted_at k w) (lesser least o) × IsSaid (lesser least o)
+  less : (f : ℕ → ℕ) (w : Want) → 0 < w.waiting → (least : Least) (o : Option Units) → units_asked e (block_at bs w.block) ≡ o → IsSaid least → IsLeast bs e f least → IsLeast bs e (λ k. f k + counted_at k w) (lesser least o) × IsSaid (lesser least o)
   less f w some Unknown o is said h = absurd said
   less f w some Nobody None is said h = (
     (λ b u v. elim (was_or_now f w b u v) [
       | inl before ↦ h b u before
-      | inr now ↦ let no : Some u ≡ None = sym v.asks ∙ ap (λ k. asked e (block_at bs k)) now.0 ∙ is in absurd cc
+      | inr now ↦ let no : Some u ≡ None = sym v.asks ∙ ap (λ k. units_asked e (block_at bs k)) now.0 ∙ is in absurd cc
     ]),
     tt,
   )
@@ -110,7 +110,7 @@ module _ (bs : List Block) (e : ℕ) where
     (
       (λ b u v. elim (was_or_now f w b u v) [
         | inl before ↦ h.0 b u before
-        | inr now ↦ let no : Some u ≡ None = sym v.asks ∙ ap (λ k. asked e (block_at bs k)) now.0 ∙ is in absurd cc
+        | inr now ↦ let no : Some u ≡ None = sym v.asks ∙ ap (λ k. units_asked e (block_at bs k)) now.0 ∙ is in absurd cc
       ]),
       (h.1.0, h.1.1, record { some = omega (arith, h.1.2.some); asks = h.1.2.asks }, h.1.3),
     ),
@@ -149,21 +149,21 @@ module _ (bs : List Block) (e : ℕ) where
 
       by_count : (n : ℕ) → w.waiting ≡ n → IsLeast bs e (λ k. f k + counted_at k w) (step bs e least w) × IsSaid (step bs e least w)
       by_count zero is = rw is (least-by f (λ k. f k + (if w.block == k then 0 else 0)) (λ b. omega (arith, either_way (w.block == b) 0)) least h, said)
-      by_count (suc n) is = rw (other_zero is) (less f w (omega (arith, is)) least (asked e (block_at bs w.block)) refl said h)
+      by_count (suc n) is = rw (other_zero is) (less f w (omega (arith, is)) least (units_asked e (block_at bs w.block)) refl said h)
         where
           other_zero : w.waiting ≡ suc n → (w.waiting == 0) ≡ false
           other_zero is = ne_eqb w.waiting 0 (λ none. absurd (omega (arith, none, is)))
 
-  least-of : (ws : List Want) (f : ℕ → ℕ) (least : Least) → IsSaid least → IsLeast bs e f least → IsLeast bs e (λ k. f k + wanting k ws) (least_in bs e ws least)
-  least-of [] f least said h = least-by f (λ k. f k + wanting k []) (λ b. omega arith) least h
+  least-of : (ws : List Want) (f : ℕ → ℕ) (least : Least) → IsSaid least → IsLeast bs e f least → IsLeast bs e (λ k. f k + want_count k ws) (least_in bs e ws least)
+  least-of [] f least said h = least-by f (λ k. f k + want_count k []) (λ b. omega arith) least h
   least-of (w ∷ ws) f least said h =
       let s = stepped f w least said h in
-      least-by (λ k. f k + counted_at k w + wanting k ws) (λ k. f k + wanting k (w ∷ ws)) (λ b. omega (arith, sum_by-cons (counted_at b) w ws)) (least_in bs e ws (step bs e least w))
+      least-by (λ k. f k + counted_at k w + want_count k ws) (λ k. f k + want_count k (w ∷ ws)) (λ b. omega (arith, sum_by-cons (counted_at b) w ws)) (least_in bs e ws (step bs e least w))
       (least-of ws (λ k. f k + counted_at k w) (step bs e least w) s.1 s.0)
 
-  pub least-counted : (ws : List Want) → IsLeast bs e (λ b. wanting b ws) (least_in bs e ws Nobody)
+  pub least-counted : (ws : List Want) → IsLeast bs e (λ b. want_count b ws) (least_in bs e ws Nobody)
   least-counted ws =
-      least-by (λ k. 0 + wanting k ws) (λ b. wanting b ws) (λ b. omega arith) (least_in bs e ws Nobody)
+      least-by (λ k. 0 + want_count k ws) (λ b. want_count b ws) (λ b. omega arith) (least_in bs e ws Nobody)
       (least-of ws (λ k. 0) Nobody tt (λ b u w. absurd (omega (arith, w.some))))
 
 -- NOBODY ENTERS
@@ -175,7 +175,7 @@ module _ (bs : List Block) (e : ℕ) (s : State) where
       vain-first bs e n ns s (by_live (attributes_at n s.transactions) refl) (in_vain ns (λ b some. h b (omega (arith, some))))
     where
       by_live : (o : Option Transaction) → attributes_at n s.transactions ≡ o → looked_at bs e n s ≡ s
-      by_live None is = ap (λ (o : Option Transaction). option_map_or (admitted bs e n s) o s) is
+      by_live None is = ap (λ (o : Option Transaction). option_map_or (admit_by bs e n s) o s) is
       by_live (Some t) live = vain-looked_at bs e n s t live (subst (λ b. AsksInVain bs e b s) (next-found n s.transactions t live) (h (next_of s.transactions n) (omega (arith, same_number (next_of s.transactions n) (next_of s.transactions n) refl))))
 
   -- where all ask in vain nobody enters

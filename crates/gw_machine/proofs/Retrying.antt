@@ -7,7 +7,7 @@ use Rattle.gw_members.specs.declared.tx.Member.{Member}
 use Rattle.gw_machine.specs.Configuration.{Configuration}
 use Rattle.gw_step.specs.State.{priority_of}
 use Rattle.gw_step.specs.Residence.{ResidesOnce}
-use Rattle.gw_step.specs.Changes.{retries, woken}
+use Rattle.gw_step.specs.Changes.{retries, wake}
 use Rattle.gw_machine.specs.View.{state_of, lists_of, member_number}
 use Rattle.gw_machine.specs.Coherence.{Linked, IsRanked, CanRest}
 use Rattle.gw_step.proofs.Lists.{all_all_behind, map-all_behind}
@@ -42,14 +42,14 @@ module _ (m : Configuration) (l : Linked m) (cs : List Member) (ws : Waiting) (j
       ap (map member_number) joined
       ∙ map-all_behind member_number (λ (x : Member). x.priority) (priority_of m.transactions.txs) m.waits.retry m.current_events.items (agree m.transactions m.waits.retry l.retry) (agree m.transactions m.current_events.items l.current_events)
 
-  pub state-woken : record (state_of m) { stir = false; lists = record (lists_of m) { current_events = map member_number cs; delay_lists = map (map member_number) ws.lists; retry = map member_number ws.retry } } ≡ woken (state_of m)
+  pub state-woken : record (state_of m) { stir = false; lists = record (lists_of m) { current_events = map member_number cs; delay_lists = map (map member_number) ws.lists; retry = map member_number ws.retry } } ≡ wake (state_of m)
   state-woken =
       ap (λ (ns : List ℕ). record (state_of m) { stir = false; lists = record (lists_of m) { current_events = ns; delay_lists = map (map member_number) ws.lists; retry = map member_number ws.retry } }) numbers-woken
-      ∙ ap (λ (xs : List (List Member)). record (woken (state_of m)) { lists = record (woken (state_of m)).lists { delay_lists = map (map member_number) xs; retry = map member_number ws.retry } }) same
-      ∙ ap (λ (xs : List Member). record (woken (state_of m)) { lists = record (woken (state_of m)).lists { retry = map member_number xs } }) none
+      ∙ ap (λ (xs : List (List Member)). record (wake (state_of m)) { lists = record (wake (state_of m)).lists { delay_lists = map (map member_number) xs; retry = map member_number ws.retry } }) same
+      ∙ ap (λ (xs : List Member). record (wake (state_of m)) { lists = record (wake (state_of m)).lists { retry = map member_number xs } }) none
 
   pub linked-woken : (new : Configuration) → new.transactions ≡ m.transactions → new.active ≡ m.active → new.current_events.items ≡ cs → new.future_events ≡ m.future_events → new.waits ≡ ws → new.assemblies ≡ m.assemblies → new.chains ≡ m.chains
-      → new.entities ≡ m.entities → new.clock ≡ m.clock → state_of new ≡ woken (state_of m) → Linked new
+      → new.entities ≡ m.entities → new.clock ≡ m.clock → state_of new ≡ wake (state_of m) → Linked new
   linked-woken new ts a c fs w assemblies chs entities clock is =
       linked-lists m new ts (rw a l.active)
       (rw (c, joined) (all_all_behind (IsRanked m.transactions) (λ (x : Member). x.priority) m.waits.retry m.current_events.items l.retry l.current_events))

@@ -5,8 +5,8 @@ use Rattle.gw_blocks.specs.declared.parts.Block.{Block}
 use Rattle.gw_members.specs.declared.tx.Tx.{Tx}
 use Rattle.gw_transactions.specs.declared.Transaction.{Transaction}
 use Rattle.gw_transactions.specs.Transactions.{attributes_at}
-use Rattle.gw_entities.specs.Facility.{released}
-use Rattle.gw_entities.specs.Storage.{left}
+use Rattle.gw_entities.specs.Facility.{without_owner}
+use Rattle.gw_entities.specs.Storage.{with_exits}
 use Rattle.gw_entities.specs.declared.facilities.Facility.{Facility}
 use Rattle.gw_entities.specs.Numbered.{ByNumber}
 use Rattle.gw_machine.specs.Configuration.{Configuration}
@@ -41,13 +41,13 @@ steady-entered bs m new tx t s few block live is fac =
     (subst (λ (x : State). IsWithin (length bs) es (m.steps + 1) (made_in (m.steps + 1)) x) (sym is) v) (omega (arith, few))
 
 -- a facility was given up
-pub steady-released : (bs : List Block) (k : ℕ) (m new : Configuration) (f : ℕ) → IsSteady bs k m → f < length m.entities.facilities.values → state_of new ≡ put_facility f (released (facility f (state_of m))) (state_of m) → length new.entities.facilities.values ≡ length m.entities.facilities.values → IsSteady bs k new
+pub steady-released : (bs : List Block) (k : ℕ) (m new : Configuration) (f : ℕ) → IsSteady bs k m → f < length m.entities.facilities.values → state_of new ≡ put_facility f (without_owner (facility f (state_of m))) (state_of m) → length new.entities.facilities.values ≡ length m.entities.facilities.values → IsSteady bs k new
 steady-released bs k m new f s here is count =
     steady-now bs k k m new s (omega arith) count
     (subst (λ (x : State). IsWithin (length bs) (length m.entities.facilities.values) k (made_in k) x) (sym is) (within-released (length bs) (length m.entities.facilities.values) k (made_in k) (state_of m) s.within f here)) s.few
 
 -- units were given back
-pub steady-given_back : (bs : List Block) (k : ℕ) (m new : Configuration) (u : Units) → IsSteady bs k m → u.entity < length m.entities.facilities.values → state_of new ≡ put_storage u.entity (left u.number (storage u.entity (state_of m))) (state_of m) → new.entities.facilities ≡ m.entities.facilities → IsSteady bs k new
+pub steady-given_back : (bs : List Block) (k : ℕ) (m new : Configuration) (u : Units) → IsSteady bs k m → u.entity < length m.entities.facilities.values → state_of new ≡ put_storage u.entity (with_exits u.number (storage u.entity (state_of m))) (state_of m) → new.entities.facilities ≡ m.entities.facilities → IsSteady bs k new
 steady-given_back bs k m new u s here is fac =
     steady-now bs k k m new s (omega arith) (ap (λ (f : ByNumber Facility). length f.values) fac)
     (subst (λ (x : State). IsWithin (length bs) (length m.entities.facilities.values) k (made_in k) x) (sym is) (within-given_back (length bs) (length m.entities.facilities.values) k (made_in k) (state_of m) s.within u here)) s.few
@@ -72,7 +72,7 @@ passing-from bs m new tx t a steps ts steady = record {
 
 pub passing-released : (bs : List Block) (m mid new : Configuration) (tx : Tx) (t : Transaction) (f : ℕ) → IsActive bs m tx t → f < length m.entities.facilities.values
     → state_of mid ≡ state_of m → mid ≡ record m { current_events = mid.current_events }
-    → state_of new ≡ put_facility f (released (facility f (state_of mid))) (state_of mid) → OnlyEntitiesChange mid new → length new.entities.facilities.values ≡ length mid.entities.facilities.values → IsPassing bs new tx t
+    → state_of new ≡ put_facility f (without_owner (facility f (state_of mid))) (state_of mid) → OnlyEntitiesChange mid new → length new.entities.facilities.values ≡ length mid.entities.facilities.values → IsPassing bs new tx t
 passing-released bs m mid new tx t f a here same frame is frame_new count =
     let fac : mid.entities.facilities ≡ m.entities.facilities = ap (λ (x : Configuration). x.entities.facilities) frame in
     let steady = steady-same bs m.steps m mid a.steady same fac in
@@ -83,7 +83,7 @@ passing-released bs m mid new tx t f a here same frame is frame_new count =
 
 pub passing-given_back : (bs : List Block) (m mid new : Configuration) (tx : Tx) (t : Transaction) (u : Units) → IsActive bs m tx t → u.entity < length m.entities.facilities.values
     → state_of mid ≡ state_of m → mid ≡ record m { current_events = mid.current_events }
-    → state_of new ≡ put_storage u.entity (left u.number (storage u.entity (state_of mid))) (state_of mid) → OnlyEntitiesChange mid new → new.entities ≡ record mid.entities { storages = new.entities.storages } → IsPassing bs new tx t
+    → state_of new ≡ put_storage u.entity (with_exits u.number (storage u.entity (state_of mid))) (state_of mid) → OnlyEntitiesChange mid new → new.entities ≡ record mid.entities { storages = new.entities.storages } → IsPassing bs new tx t
 passing-given_back bs m mid new tx t u a here same frame is frame_new others =
     let fac : mid.entities.facilities ≡ m.entities.facilities = ap (λ (x : Configuration). x.entities.facilities) frame in
     let steady = steady-same bs m.steps m mid a.steady same fac in

@@ -13,11 +13,11 @@ use Rattle.gw_entities.specs.declared.facilities.Facility.{Facility}
 use Rattle.gw_entities.specs.Numbered.{ByNumber}
 use Rattle.gw_machine.specs.Configuration.{Configuration}
 use Rattle.gw_step.specs.State.{State, delay_list}
-use Rattle.gw_step.specs.Blocks.{takes_over, hand_over, asked, enters_if_free, admitted, looked_at, is_full, admission}
+use Rattle.gw_step.specs.Blocks.{takes_over, hand_over, units_asked, enters_if_free, admit_by, looked_at, is_full, admission}
 use Rattle.gw_step.specs.Changes.{storage, put_storage, called_from, enters_and_falls}
 use Rattle.gw_step.specs.Operands.{BlocksFit}
 use Rattle.gw_step.proofs.Outcomes.{choose, by_option}
-use Rattle.gw_entities.specs.Storage.{has_room, entered}
+use Rattle.gw_entities.specs.Storage.{has_room, with_entries}
 use Rattle.gw_rules.specs.Kinds.{block_at}
 use Rattle.gw_blocks.specs.declared.parts.Units.{Units}
 use Rattle.gw_blocks.specs.declared.parts.Block.TheVariants as blocks
@@ -136,15 +136,15 @@ walk-same bs e i m new lists is =
 -- where no unit is free, nobody else enters
 full-asks : (n : ℕ) (t : Transaction) (s : State) (u : Units) → is_full (storage u.entity s) ≡ true → 0 < u.number → enters_if_free n t s u ≡ s
 full-asks n t s u full some =
-    choose (λ x. x ≡ s) (has_room u.number (storage u.entity s)) (put_storage u.entity (entered u.number (storage u.entity s)) (enters_and_falls n t (called_from u.entity n s))) s
+    choose (λ x. x ≡ s) (has_room u.number (storage u.entity s)) (put_storage u.entity (with_entries u.number (storage u.entity s)) (enters_and_falls n t (called_from u.entity n s))) s
     (λ free. absurd (omega (arith, leb-true _ _ full, leb-true _ _ free, some)))
     (λ none. refl)
 
 full-looked_at : (bs : List Block) (es e n : ℕ) (s : State) → BlocksFit es bs → is_full (storage e s) ≡ true → looked_at bs e n s ≡ s
 full-looked_at bs es e n s fit full =
-    by_option (λ x. x ≡ s) (attributes_at n s.transactions) (admitted bs e n s) s
+    by_option (λ x. x ≡ s) (attributes_at n s.transactions) (admit_by bs e n s) s
     (λ t live.
-    by_option (λ x. x ≡ s) (asked e (block_at bs t.next)) (enters_if_free n t s) s
+    by_option (λ x. x ≡ s) (units_asked e (block_at bs t.next)) (enters_if_free n t s) s
     (λ u is.
     let a = asked-enter e (block_at bs t.next) u is in
     full-asks n t s u (subst (λ k. is_full (storage k s) ≡ true) (sym a.1) full) (fit.operands t.next (blocks.Enter u) a.0).some)
@@ -162,8 +162,8 @@ vain-enters n t s u none = rw none refl
 
 pub vain-looked_at : (bs : List Block) (e n : ℕ) (s : State) (t : Transaction) → attributes_at n s.transactions ≡ Some t → AsksInVain bs e t.next s → looked_at bs e n s ≡ s
 vain-looked_at bs e n s t live vain =
-    ap (λ o. option_map_or (admitted bs e n s) o s) live
-    ∙ by_option (λ x. x ≡ s) (asked e (block_at bs t.next)) (enters_if_free n t s) s (λ u is. vain-enters n t s u (vain u is)) (λ none. refl)
+    ap (λ o. option_map_or (admit_by bs e n s) o s) live
+    ∙ by_option (λ x. x ≡ s) (units_asked e (block_at bs t.next)) (enters_if_free n t s) s (λ u is. vain-enters n t s u (vain u is)) (λ none. refl)
 
 -- so nobody does where none of the others does
 pub vain-first : (bs : List Block) (e n : ℕ) (ns : List ℕ) (s : State) → looked_at bs e n s ≡ s → admission bs e ns s ≡ s → admission bs e (n ∷ ns) s ≡ s

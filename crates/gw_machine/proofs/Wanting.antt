@@ -4,10 +4,10 @@ use Rattle.std.specs.Prelude.{slice_set}
 use Rattle.std.proofs.lemmas.Bool.{cases_eq, eq-eqb}
 use Rattle.gw_num.specs.Table.{at, put}
 use Rattle.gw_num.proofs.Tables.{at-put, at-put_other, by_entry, length-put, sum_by-put}
-use Rattle.gw_step.specs.State.{raised}
+use Rattle.gw_step.specs.State.{with_one_more_at}
 use Rattle.gw_step.proofs.Residence.{at-le-sum}
 use Rattle.gw_machine.specs.declared.wants.Want.{Want}
-use Rattle.gw_machine.specs.Wants.{nobody, counted_at, wanting, IsAt, IsTold, CountsNewcomer, CountsLeaver, CountsEntry}
+use Rattle.gw_machine.specs.Wants.{nobody, counted_at, want_count, IsAt, IsTold, CountsNewcomer, CountsLeaver, CountsEntry}
 
 -- one more at the end is one written there
 pub appended-put : {X : Type 0} (d : X) (xs : List X) (x : X) → xs ++ x ∷ [] ≡ put d xs (length xs) x
@@ -30,7 +30,7 @@ counts w block b same = by_count w.waiting refl
     by_count (suc n) is = rw (same (omega (arith, is))) refl
 
 -- a want counts no more than all do
-pub counted-within : (b n i : ℕ) (ws : List Want) → IsAt b n i ws → (at nobody ws i).waiting ≤ wanting b ws
+pub counted-within : (b n i : ℕ) (ws : List Want) → IsAt b n i ws → (at nobody ws i).waiting ≤ want_count b ws
 counted-within b n i ws there =
     let here : counted_at b (at nobody ws i) ≡ (at nobody ws i).waiting = rw (eq-eqb (at nobody ws i).block b there.block) refl in
     omega (arith, here, at-le-sum nobody (counted_at b) ws i (none-counted b))
@@ -43,7 +43,7 @@ module _ (ws : List Want) (i : ℕ) (v : Want) (block entries : ℕ) where
   abbrev new : List Want
   new = put nobody ws i v
 
-  written-wanting : (b : ℕ) → wanting b new + counted_at b was ≡ wanting b ws + counted_at b v
+  written-wanting : (b : ℕ) → want_count b new + counted_at b was ≡ want_count b ws + counted_at b v
   written-wanting b = sum_by-put nobody (counted_at b) ws i v (none-counted b)
 
   pub newcomer-counted : v.block ≡ block → v.waiting ≡ was.waiting + 1 → ((v.entries ≡ entries) ⊎ ((v.entries ≡ was.entries) × (was.block ≡ block))) → (0 < was.waiting → (was.block ≡ block) × (v.entries ≡ was.entries)) → CountsNewcomer block entries ws new
@@ -69,7 +69,7 @@ module _ (ws : List Want) (i : ℕ) (v : Want) (block entries : ℕ) where
         (λ j other. past j);
   }
     where
-      risen : (b : ℕ) (c : Bool) → counted_at b was ≡ (if c then was.waiting else 0) → counted_at b v ≡ (if c then v.waiting else 0) → wanting b new ≡ wanting b ws + (if c then 1 else 0)
+      risen : (b : ℕ) (c : Bool) → counted_at b was ≡ (if c then was.waiting else 0) → counted_at b v ≡ (if c then v.waiting else 0) → want_count b new ≡ want_count b ws + (if c then 1 else 0)
       risen b true before after = omega (arith, written-wanting b, before, after, more)
       risen b false before after = omega (arith, written-wanting b, before, after)
 
@@ -87,22 +87,22 @@ module _ (ws : List Want) (i : ℕ) (v : Want) (block entries : ℕ) where
         (λ j other. past j);
   }
     where
-      fallen : (b : ℕ) (c : Bool) → counted_at b was ≡ (if c then was.waiting else 0) → counted_at b v ≡ (if c then v.waiting else 0) → wanting b new + (if c then 1 else 0) ≡ wanting b ws
+      fallen : (b : ℕ) (c : Bool) → counted_at b was ≡ (if c then was.waiting else 0) → counted_at b v ≡ (if c then v.waiting else 0) → want_count b new + (if c then 1 else 0) ≡ want_count b ws
       fallen b true before after = omega (arith, written-wanting b, before, after, fewer)
       fallen b false before after = omega (arith, written-wanting b, before, after)
 
 -- ENTRIES
 
-risen-at : (es : List ℕ) (block b : ℕ) → at 0 es b ≤ at 0 (raised block es) b
+risen-at : (es : List ℕ) (block b : ℕ) → at 0 es b ≤ at 0 (with_one_more_at block es) b
 risen-at es block b = elim (cases_eq b block) [
-  | inl same ↦ omega (arith, ap (λ k. at 0 (raised block es) k) same, at-put 0 es block (at 0 es block + 1), ap (at 0 es) same)
+  | inl same ↦ omega (arith, ap (λ k. at 0 (with_one_more_at block es) k) same, at-put 0 es block (at 0 es block + 1), ap (at 0 es) same)
   | inr other ↦ omega (arith, at-put_other 0 es block b (at 0 es block + 1) other)
 ]
 
 -- a want that is told of all entries after one more was told of all before it, and has another block
-told_before : (es : List ℕ) (block : ℕ) (w : Want) → w.entries ≤ at 0 es w.block → IsTold (raised block es) w → IsTold es w
+told_before : (es : List ℕ) (block : ℕ) (w : Want) → w.entries ≤ at 0 es w.block → IsTold (with_one_more_at block es) w → IsTold es w
 told_before es block w past told some = elim (cases_eq w.block block) [
-  | inl same ↦ absurd (omega (arith, past, told some, ap (λ k. at 0 (raised block es) k) same, at-put 0 es block (at 0 es block + 1), ap (at 0 es) same))
+  | inl same ↦ absurd (omega (arith, past, told some, ap (λ k. at 0 (with_one_more_at block es) k) same, at-put 0 es block (at 0 es block + 1), ap (at 0 es) same))
   | inr other ↦ told some ∙ at-put_other 0 es block w.block (at 0 es block + 1) other
 ]
 
@@ -126,15 +126,15 @@ module _ (ws : List Want) (i : ℕ) (v : Want) (block entries : ℕ) where
     told = λ es is past told j.
         elim (cases_eq j i) [
           | inl at_i ↦ subst (λ k. IsTold es (at nobody ws k)) (sym at_i) (λ some. was_told ∙ sym is ∙ ap (at 0 es) (sym there.block))
-          | inr other ↦ told_before es block (at nobody ws j) (past j) (subst (IsTold (raised block es)) (at-put_other nobody ws i j v other) (told j))
+          | inr other ↦ told_before es block (at nobody ws j) (past j) (subst (IsTold (with_one_more_at block es)) (at-put_other nobody ws i j v other) (told j))
         ];
     past = λ es is past.
-        by_entry nobody ws i v (λ j w. w.entries ≤ at 0 (raised block es) w.block)
-        (omega (arith, told_now, is, ap (λ k. at 0 (raised block es) k) (blocks ∙ there.block), at-put 0 es block (at 0 es block + 1)))
+        by_entry nobody ws i v (λ j w. w.entries ≤ at 0 (with_one_more_at block es) w.block)
+        (omega (arith, told_now, is, ap (λ k. at 0 (with_one_more_at block es) k) (blocks ∙ there.block), at-put 0 es block (at 0 es block + 1)))
         (λ j other. omega (arith, past j, risen-at es block (at nobody ws j).block));
   }
     where
-      kept : (b : ℕ) (c : Bool) → counted_at b (at nobody ws i) ≡ (if c then (at nobody ws i).waiting else 0) → counted_at b v ≡ (if c then v.waiting else 0) → wanting b (put nobody ws i v) ≡ wanting b ws
+      kept : (b : ℕ) (c : Bool) → counted_at b (at nobody ws i) ≡ (if c then (at nobody ws i).waiting else 0) → counted_at b v ≡ (if c then v.waiting else 0) → want_count b (put nobody ws i v) ≡ want_count b ws
       kept b true before after = omega (arith, sum_by-put nobody (counted_at b) ws i v (none-counted b), before, after, same)
       kept b false before after = omega (arith, sum_by-put nobody (counted_at b) ws i v (none-counted b), before, after)
 

@@ -4,7 +4,7 @@ use Rattle.gw_blocks.specs.declared.parts.Block.{Block}
 use Rattle.gw_blocks.specs.declared.parts.Units.{Units}
 use Rattle.gw_entities.specs.Storage.{has_room}
 use Rattle.gw_rules.specs.Kinds.{block_at}
-use Rattle.gw_step.specs.Blocks.{asked, admission, is_full}
+use Rattle.gw_step.specs.Blocks.{units_asked, admission, is_full}
 use Rattle.gw_step.specs.Changes.{storage}
 use Rattle.gw_step.specs.Residence.{occurrences}
 use Rattle.gw_step.specs.State.{State, delay_list}
@@ -15,7 +15,7 @@ use Rattle.gw_machine.specs.Wants.{nexts}
 
 -- the units that the block of a number asks of a storage, if it is its ENTER, aren't free
 abbrev pub AsksInVain : List Block → ℕ → ℕ → State → Type 0
-AsksInVain bs e number s = (u : Units) → asked e (block_at bs number) ≡ Some u → has_room u.number (storage u.entity s) ≡ false
+AsksInVain bs e number s = (u : Units) → units_asked e (block_at bs number) ≡ Some u → has_room u.number (storage u.entity s) ≡ false
 
 -- nobody who waits for a storage can enter
 abbrev pub AdmitsNobody : List Block → ℕ → State → Type 0

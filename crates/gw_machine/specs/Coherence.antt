@@ -75,14 +75,14 @@ abbrev pub Others : ℕ → ℕ → Type 0
 Others n m = m ≢ n
 
 -- events as members of a priority list
-abbrev pub ranked : Population → List Event → List Member
-ranked p [] = []
-ranked p (e ∷ es) = record { tx = e.tx; priority = priority_of p.txs e.tx.number } ∷ ranked p es
+abbrev pub as_members : Population → List Event → List Member
+as_members p [] = []
+as_members p (e ∷ es) = record { tx = e.tx; priority = priority_of p.txs e.tx.number } ∷ as_members p es
 
 -- all whose events are due at a time join a chain of members, each behind its peers
 abbrev pub DueJoin : Population → ℤ → Chain Event → Chain Member → Chain Member → Type 0
 DueJoin p time events old new =
-    new.items ≡ all_behind (λ (m : Member). m.priority) (ranked p (due_events time events.items)) old.items
+    new.items ≡ all_behind (λ (m : Member). m.priority) (as_members p (due_events time events.items)) old.items
 
 -- RESTING
 

@@ -6,7 +6,7 @@ use Rattle.gw_blocks.specs.declared.parts.Units.{Units}
 use Rattle.gw_entities.specs.declared.contents.Contents.{Contents}
 use Rattle.gw_entities.specs.declared.facilities.Facility.{Facility}
 use Rattle.gw_entities.specs.declared.storages.Storage.{Storage}
-use Rattle.gw_entities.specs.Facility.{idle, seized}
+use Rattle.gw_entities.specs.Facility.{idle, with_owner}
 use Rattle.gw_entities.specs.Storage.{vacant}
 use Rattle.gw_machine.specs.Configuration.{Configuration}
 use Rattle.gw_machine.specs.View.{entity_count}
@@ -48,7 +48,7 @@ IsWithinEntries c = c.content ≤ c.entries
 
 -- the first of the delay list of a facility owns it at once, in its SEIZE block
 abbrev pub handed_over_to : ℕ → ℕ → Transaction → State → State
-handed_over_to f n t s = put_facility f (seized n (facility f s)) (enters_and_falls n t (called_from f n s))
+handed_over_to f n t s = put_facility f (with_owner n (facility f s)) (enters_and_falls n t (called_from f n s))
 
 -- the transaction n, if it is there, owns a facility at once where its next block is its SEIZE
 abbrev pub taken_over_by : List Block → ℕ → ℕ → State → State

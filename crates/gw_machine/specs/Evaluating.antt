@@ -61,9 +61,9 @@ pub record CanEvaluate (m : Configuration) (subject : Subject) : Type 0 where
 -- WHAT IS ANSWERED
 
 -- an operand's value and where the streams are then, or how its evaluation ends
-abbrev pub valued : Result ℤ PlusEnd → List ℕ → Evaluation (ℤ × List ℕ)
-valued (Ok value) streams = Value (value, streams)
-valued (Err end) streams = Fails end
+abbrev pub value_outcome : Result ℤ PlusEnd → List ℕ → Evaluation (ℤ × List ℕ)
+value_outcome (Ok value) streams = Value (value, streams)
+value_outcome (Err end) streams = Fails end
 
 -- what is answered, as an outcome
 abbrev pub outcome_of : {A : Type 0} → Result A End → Outcome A
@@ -71,21 +71,21 @@ outcome_of (Ok a) = Gives a
 outcome_of (Err end) = EndsBy end
 
 -- a time or a moment, and where the streams are then
-abbrev pub drawn : Result ℤ End → List ℕ → Outcome (ℤ × List ℕ)
-drawn result streams = outcome_of result >>= λ value. Gives (value, streams)
+abbrev pub time_of : Result ℤ End → List ℕ → Outcome (ℤ × List ℕ)
+time_of result streams = outcome_of result >>= λ value. Gives (value, streams)
 
 -- a source, where draws are below a bound, was evaluated for a subject on a machine, and moved the streams
 abbrev pub EvaluatesSource : Parts → Subject → ℕ → Operand → Configuration → Result ℤ PlusEnd → List ℕ → List ℕ → Type 0
-EvaluatesSource p subject bound source m result old new = source_value p (environment_in subject m) bound source old ≡ valued result new
+EvaluatesSource p subject bound source m result old new = source_value p (environment_in subject m) bound source old ≡ value_outcome result new
 
 -- an operand was
 abbrev pub EvaluatesOperand : Parts → Subject → Operand → Configuration → Result ℤ PlusEnd → List ℕ → List ℕ → Type 0
-EvaluatesOperand p subject operand m result old new = operand_value p (environment_in subject m) operand old ≡ valued result new
+EvaluatesOperand p subject operand m result old new = operand_value p (environment_in subject m) operand old ≡ value_outcome result new
 
 -- a time was, by its mean and half-range
 abbrev pub EvaluatesTime : Parts → Subject → Spread → Configuration → Result ℤ PlusEnd → List ℕ → List ℕ → Type 0
-EvaluatesTime p subject spread m result old new = drawn_time p (environment_in subject m) spread old ≡ valued result new
+EvaluatesTime p subject spread m result old new = drawn_time p (environment_in subject m) spread old ≡ value_outcome result new
 
 -- the moment was that lies such a time after the clock
 abbrev pub EvaluatesMoment : Parts → Subject → Spread → Configuration → Result ℤ End → List ℕ → List ℕ → Type 0
-EvaluatesMoment p subject spread m result old new = drawn_moment p (environment_in subject m) spread m.clock old ≡ drawn result new
+EvaluatesMoment p subject spread m result old new = drawn_moment p (environment_in subject m) spread m.clock old ≡ time_of result new

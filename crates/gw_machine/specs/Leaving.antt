@@ -3,7 +3,7 @@ use Rattle.std.specs.Prelude.{[], ◌∷◌, List, ◌≡◌, ℕ, ℤ, ◌+◌,
 use Rattle.gw_assemblies.specs.declared.assemblies.Assembly.{Assembly as HeldAssembly}
 use Rattle.gw_members.specs.Members.{tx_at}
 use Rattle.gw_members.specs.declared.tx.Tx.{Tx}
-use Rattle.gw_entities.specs.Tabulation.{Tabulation, tabulating}
+use Rattle.gw_entities.specs.Tabulation.{Tabulation, tabulation_of}
 use Rattle.gw_num.specs.declared.arithmetic.NumFault.{NumFault}
 use Rattle.gw_num.specs.Table.{at}
 use Rattle.gw_step.specs.declared.ends.End.{End}
@@ -91,7 +91,7 @@ Tabulates (Err fault) rule puts old new = (rule ≡ Err fault) × (new ≡ old)
 -- the same for a call on a machine, by the rule for a value and a table
 abbrev pub TabulatesIn : Result (Unit {0}) NumFault → ℕ → ℤ → Configuration → Configuration → Type 0
 TabulatesIn result t value old new =
-    Tabulates result (tabulating value (table t (state_of old))) (λ v. put_table t v (state_of old)) (state_of old) (state_of new)
+    Tabulates result (tabulation_of value (table t (state_of old))) (λ v. put_table t v (state_of old)) (state_of old) (state_of new)
 
 -- DELAY LISTS
 

@@ -6,8 +6,8 @@ use Rattle.gw_machine.specs.Wants.{AreKnown}
 use Rattle.gw_machine.specs.declared.machine.Machine.TheInside.{Inside}
 
 -- a machine's parts
-abbrev pub shown : Inside → Configuration
-shown m = record {
+abbrev pub configuration_of : Inside → Configuration
+configuration_of m = record {
   clock = m.clock;
   count = m.count;
   steps = m.steps;
@@ -29,4 +29,4 @@ shown m = record {
 
 -- each handle leads to its transaction, each live transaction resides exactly once, and the time is one; and what is known of who waits is so
 abbrev pub IsLinked : Inside → Type 0
-IsLinked m = Linked (shown m) × AreKnown m.wants (state_of (shown m))
+IsLinked m = Linked (configuration_of m) × AreKnown m.wants (state_of (configuration_of m))

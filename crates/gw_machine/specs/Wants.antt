@@ -5,9 +5,9 @@ use Rattle.gw_blocks.specs.declared.parts.Units.{Units}
 use Rattle.gw_num.specs.Table.{at}
 use Rattle.gw_rules.specs.Kinds.{block_at}
 use Rattle.gw_transactions.specs.Transactions.{LiveTransaction}
-use Rattle.gw_step.specs.Blocks.{asked}
+use Rattle.gw_step.specs.Blocks.{units_asked}
 use Rattle.gw_step.specs.Residence.{occurrences}
-use Rattle.gw_step.specs.State.{State, delay_list, raised}
+use Rattle.gw_step.specs.State.{State, delay_list, with_one_more_at}
 use Rattle.gw_machine.specs.declared.wants.Want.{Want}
 use Rattle.gw_machine.specs.declared.least.Least.{Least}
 use Rattle.gw_machine.specs.declared.least.Least.TheVariants.{Unknown, Nobody, Units as Asks}
@@ -23,8 +23,8 @@ abbrev pub counted_at : ℕ → Want → ℕ
 counted_at b w = if w.block == b then w.waiting else 0
 
 -- how many want to enter a block
-abbrev pub wanting : ℕ → List Want → ℕ
-wanting b ws = sum_by (counted_at b) ws
+abbrev pub want_count : ℕ → List Want → ℕ
+want_count b ws = sum_by (counted_at b) ws
 
 -- the want at a place is for this block, and counts so many or more
 pub record IsAt (b n i : ℕ) (ws : List Want) : Type 0 where
@@ -57,22 +57,22 @@ KeepsEntries entries old new =
 
 -- one more is counted who wants to enter a block, which has so many entries
 pub record CountsNewcomer (block entries : ℕ) (old new : List Want) : Type 0 where
-  pub wanting : (b : ℕ) → wanting b new ≡ wanting b old + (if block == b then 1 else 0)
+  pub wanting : (b : ℕ) → want_count b new ≡ want_count b old + (if block == b then 1 else 0)
   pub told : (es : List ℕ) → at 0 es block ≡ entries → AreTold es new → AreTold es old
   pub past : (es : List ℕ) → at 0 es block ≡ entries → ArePast es old → ArePast es new
 
 -- one fewer is
 pub record CountsLeaver (block entries : ℕ) (old new : List Want) : Type 0 where
-  pub wanting : (b : ℕ) → wanting b new + (if block == b then 1 else 0) ≡ wanting b old
+  pub wanting : (b : ℕ) → want_count b new + (if block == b then 1 else 0) ≡ want_count b old
   pub told : (es : List ℕ) → at 0 es block ≡ entries → AreTold es new → AreTold es old
   pub past : (es : List ℕ) → at 0 es block ≡ entries → ArePast es old → ArePast es new
 
 -- one who isn't counted enters a block, which had so many entries before
 pub record CountsEntry (block entries : ℕ) (old new : List Want) : Type 0 where
   pub many : length new ≡ length old
-  pub wanting : (b : ℕ) → wanting b new ≡ wanting b old
-  pub told : (es : List ℕ) → at 0 es block ≡ entries → ArePast es old → AreTold (raised block es) new → AreTold es old
-  pub past : (es : List ℕ) → at 0 es block ≡ entries → ArePast es old → ArePast (raised block es) new
+  pub wanting : (b : ℕ) → want_count b new ≡ want_count b old
+  pub told : (es : List ℕ) → at 0 es block ≡ entries → ArePast es old → AreTold (with_one_more_at block es) new → AreTold es old
+  pub past : (es : List ℕ) → at 0 es block ≡ entries → ArePast es old → ArePast (with_one_more_at block es) new
 
 -- one joins a list, and is counted there if anything is known of it, and stays so
 abbrev pub JoinsIfKnown : ℕ → ℕ → List Want → List Want → Type 0
@@ -105,7 +105,7 @@ nexts e s = map (next_of s.transactions) (delay_list e s)
 -- the wants count those who wait for an entity, as soon as they were told of all entries
 pub record IsCounted (ws : List Want) (e : ℕ) (s : State) : Type 0 where
   pub past : ArePast s.entries ws
-  pub counted : AreTold s.entries ws → (b : ℕ) → wanting b ws ≡ occurrences b (nexts e s)
+  pub counted : AreTold s.entries ws → (b : ℕ) → want_count b ws ≡ occurrences b (nexts e s)
 
 -- what is known of a list is so
 abbrev pub IsKnown : List Want → ℕ → State → Type 0
@@ -121,7 +121,7 @@ AreKnown known s = (e : ℕ) → IsKnown (at [] known e) e s
 -- somebody wants to enter a block that asks for these units of a storage, where so many want to enter each block
 pub record IsWanted (bs : List Block) (e : ℕ) (many : ℕ → ℕ) (b : ℕ) (u : Units) : Type 0 where
   pub some : 0 < many b
-  pub asks : asked e (block_at bs b) ≡ Some u
+  pub asks : units_asked e (block_at bs b) ≡ Some u
 
 -- these are the least units of a storage that anybody wants, where so many want to enter each block; or it isn't known
 abbrev pub IsLeast : List Block → ℕ → (ℕ → ℕ) → Least → Type 0

@@ -36,7 +36,7 @@ impl Machine {
     fn assemble(&mut self, assembly: Assembly)
         requires there { HasBegun assembly self.old }
         requires room { 0 < self.old.current_events.room }
-        ensures state { BecomesBy (change.assembled (assembly_of assembly)) self.old self.new }
+        ensures state { BecomesBy (change.assemble_all (assembly_of assembly)) self.old self.new }
         ensures room { LosesRoomToMove 1 self.old self.new }
         ensures frame { OnlyAssembliesMove self.old self.new }
     {

@@ -57,7 +57,7 @@ impl Machine {
     /// The clock goes to a time, all that are due join the current events chain, and the retry list is woken.
     pub fn move_clock_and_wake(&mut self, time: i64) -> Result<(), Memory>
         requires later { (pos 0 ≤ℤ self.old.clock) × (self.old.clock ≤ℤ time) }
-        ensures { BecomesOnOk result (λ s. change.woken (change.clock_moves time s))
+        ensures { BecomesOnOk result (λ s. change.wake (change.clock_moves time s))
             self.old self.new }
     {
         let due = self.future_events.len();

@@ -39,7 +39,7 @@ impl Machine {
         requires few { length self.old.transactions.txs < 2 ^ 60 }
         requires room { HasRoomForCopies 1 self.old }
         ensures state { state_of self.new
-            ≡ model.copied tx.number transaction target (state_of self.old) }
+            ≡ model.copy_to tx.number transaction target (state_of self.old) }
         ensures held { Holds self.new.transactions tx }
         ensures same { kept_of tx.number self.new.transactions
             ≡ kept_of tx.number self.old.transactions }

@@ -3,9 +3,9 @@
 ghost use Rattle.std.specs.Prelude.{◌≡◌, ◌≤◌, ◌<◌, ◌+◌, ◌^◌, true, length};
 ghost use Rattle.gw_num.specs.Table.{at};
 ghost use Rattle.gw_entities.specs.Contents.{empty};
-ghost use Rattle.gw_entities.specs.Facility.{idle, is_idle, is_owned_by, seized, released, seizing};
-ghost use Rattle.gw_entities.specs.Queue.{joined, departed};
-ghost use Rattle.gw_entities.specs.Storage.{has_room, entered, left, entering};
+ghost use Rattle.gw_entities.specs.Facility.{idle, is_idle, is_owned_by, with_owner, without_owner, seizure_by};
+ghost use Rattle.gw_entities.specs.Queue.{with_arrivals, with_departures};
+ghost use Rattle.gw_entities.specs.Storage.{has_room, with_entries, with_exits, entry_of};
 ghost use Rattle.gw_entities.specs.Table.{table_at};
 ghost use Rattle.gw_step.specs.Blocks as model;
 ghost use Rattle.gw_step.specs.Blocks.{has_to_wait, switch_after};
@@ -24,7 +24,7 @@ use gw_num::NumFault;
 
 /// Whether the transaction of this number has to wait for a facility, since another owns it.
 fn is_anothers(facility: Facility, number: u64) -> bool
-    ensures { result ≡ has_to_wait (seizing number facility) }
+    ensures { result ≡ has_to_wait (seizure_by number facility) }
 {
     match facility.owner {
         None => false,
@@ -35,7 +35,7 @@ fn is_anothers(facility: Facility, number: u64) -> bool
 /// Whether so many units of a storage have to be waited for, since they are within its capacity and not free.
 fn is_short_of(storage: Storage, number: u32) -> bool
     requires { storage.contents.content ≤ 2 ^ 62 }
-    ensures { result ≡ has_to_wait (entering number storage) }
+    ensures { result ≡ has_to_wait (entry_of number storage) }
 {
     number <= storage.capacity
         && storage.contents.content + u64::from(number) > u64::from(storage.capacity)
@@ -61,7 +61,7 @@ impl Machine {
     /// Whether the transaction of this number has to wait for a facility.
     pub fn waits_for_facility(&self, f: u16, number: u64) -> bool
         requires { f < length self.now.entities.facilities.values }
-        ensures { result ≡ has_to_wait (seizing number (facility f (state_of self.now))) }
+        ensures { result ≡ has_to_wait (seizure_by number (facility f (state_of self.now))) }
     {
         is_anothers(self.entities.facilities.get(f), number)
     }
@@ -71,7 +71,7 @@ impl Machine {
         requires there { f < length self.old.entities.facilities.values }
         requires few { (at idle self.old.entities.facilities.values f).entries < 2 ^ 62 }
         requires idle { is_idle (facility f (state_of self.old)) ≡ true }
-        ensures state { state_of self.new ≡ facility_by (seized number) f (state_of self.old) }
+        ensures state { state_of self.new ≡ facility_by (with_owner number) f (state_of self.old) }
         ensures frame { OnlyEntitiesChange self.old self.new }
         ensures others { self.new.entities ≡ record self.old.entities { facilities = self.new.entities.facilities } }
         ensures table { HasAsManyEntities self.old self.new }
@@ -83,7 +83,7 @@ impl Machine {
     pub fn release_facility(&mut self, f: u16, number: u64)
         requires there { f < length self.old.entities.facilities.values }
         requires owner { is_owned_by number (facility f (state_of self.old)) ≡ true }
-        ensures state { state_of self.new ≡ facility_by released f (state_of self.old) }
+        ensures state { state_of self.new ≡ facility_by without_owner f (state_of self.old) }
         ensures frame { OnlyEntitiesChange self.old self.new }
         ensures others { self.new.entities ≡ record self.old.entities { facilities = self.new.entities.facilities } }
         ensures table { HasAsManyEntities self.old self.new }
@@ -96,7 +96,7 @@ impl Machine {
     /// Whether units of a storage have to be waited for.
     pub fn waits_for_units(&self, u: Units) -> bool
         requires { u.entity < length self.now.entities.storages.values }
-        ensures { result ≡ has_to_wait (entering u.number (storage u.entity (state_of self.now))) }
+        ensures { result ≡ has_to_wait (entry_of u.number (storage u.entity (state_of self.now))) }
     {
         is_short_of(self.entities.storages.get(u.entity), u.number)
     }
@@ -107,7 +107,7 @@ impl Machine {
         requires few { CanCountEntries u self.old }
         requires room { has_room u.number (storage u.entity (state_of self.old)) ≡ true }
         ensures state { state_of self.new
-            ≡ storage_by (entered u.number) u.entity (state_of self.old) }
+            ≡ storage_by (with_entries u.number) u.entity (state_of self.old) }
         ensures frame { OnlyEntitiesChange self.old self.new }
         ensures others { self.new.entities ≡ record self.old.entities { storages = self.new.entities.storages } }
     {
@@ -119,7 +119,7 @@ impl Machine {
         requires there { u.entity < length self.old.entities.storages.values }
         requires inside { u.number ≤ (storage u.entity (state_of self.old)).contents.content }
         ensures state { state_of self.new
-            ≡ storage_by (left u.number) u.entity (state_of self.old) }
+            ≡ storage_by (with_exits u.number) u.entity (state_of self.old) }
         ensures frame { OnlyEntitiesChange self.old self.new }
         ensures others { self.new.entities ≡ record self.old.entities { storages = self.new.entities.storages } }
     {
@@ -134,7 +134,7 @@ impl Machine {
         requires inside { IsWithinEntries (at empty self.old.entities.queues.values u.entity) }
         requires few { (at empty self.old.entities.queues.values u.entity).entries + u.number ≤ 2 ^ 62 }
         ensures state { state_of self.new
-            ≡ queue_by (joined u.number) u.entity (state_of self.old) }
+            ≡ queue_by (with_arrivals u.number) u.entity (state_of self.old) }
         ensures frame { OnlyEntitiesChange self.old self.new }
         ensures others { self.new.entities ≡ record self.old.entities { queues = self.new.entities.queues } }
     {
@@ -146,7 +146,7 @@ impl Machine {
         requires there { u.entity < length self.old.entities.queues.values }
         requires inside { u.number ≤ (queue u.entity (state_of self.old)).content }
         ensures state { state_of self.new
-            ≡ queue_by (departed u.number) u.entity (state_of self.old) }
+            ≡ queue_by (with_departures u.number) u.entity (state_of self.old) }
         ensures frame { OnlyEntitiesChange self.old self.new }
         ensures others { self.new.entities ≡ record self.old.entities { queues = self.new.entities.queues } }
     {

@@ -7,7 +7,7 @@ ghost use Rattle.gw_step.specs.Blocks as model;
 ghost use Rattle.gw_machine.specs.Admission.{AdmitsNobody, AllAskInVain};
 ghost use Rattle.gw_machine.specs.Coherence.{IsSteady};
 ghost use Rattle.gw_machine.specs.View.{state_of, entity_count};
-ghost use Rattle.gw_machine.specs.Wants.{IsKnown, IsLeast, lesser as lesser_of, nexts, wanting};
+ghost use Rattle.gw_machine.specs.Wants.{IsKnown, IsLeast, lesser as lesser_of, nexts, want_count};
 
 use crate::machine::{Machine, entry_or_none};
 use crate::transfers::{asked, block_of};
@@ -30,7 +30,7 @@ pub(crate) enum Least {
 
 /// The lesser of the least so far and of what a block asks of a storage.
 fn lesser(least: Least, e: u16, block: Option<&Block>) -> Least
-    ensures { result ≡ lesser_of least (model.asked e (option_copied block.entry)) }
+    ensures { result ≡ lesser_of least (model.units_asked e (option_copied block.entry)) }
 {
     let Some(units) = asked(e, block) else {
         return least;
@@ -43,7 +43,7 @@ fn lesser(least: Least, e: u16, block: Option<&Block>) -> Least
 
 /// The least units that those ask of a storage who are counted.
 fn least_of(wants: &[Want], blocks: &[Block], e: u16) -> Least
-    ensures { IsLeast blocks.now e (λ b. wanting b wants.now) result }
+    ensures { IsLeast blocks.now e (λ b. want_count b wants.now) result }
 {
     let mut least = Least::Nobody;
     for want in wants {

@@ -56,7 +56,7 @@ impl Machine {
     pub fn unlink(&mut self, chain: u16, target: u16, count: usize)
         requires chain { chain < entity_count self.old }
         requires room { count ≤ self.old.current_events.room }
-        ensures state { state_of self.new ≡ model.unlinked count chain target (state_of self.old) }
+        ensures state { state_of self.new ≡ model.unlink_members count chain target (state_of self.old) }
         ensures room { self.old.current_events.room ≤ self.new.current_events.room + count }
         ensures frame { OnlyMembersLeave self.old self.new }
     {

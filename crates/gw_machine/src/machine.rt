@@ -4,12 +4,12 @@ ghost use Rattle.std.specs.Prelude.{◌≡◌, ◌≤◌, ◌<◌, ◌+◌, ◌^
 ghost use Rattle.gw_num.specs.Table.{at};
 ghost use Rattle.gw_transactions.specs.Transactions.{Holds, attributes_at, live_count};
 ghost use Rattle.gw_operands.specs.Values.{with_first};
-ghost use Rattle.gw_step.specs.State.{priority_of, raised, with_streams};
+ghost use Rattle.gw_step.specs.State.{priority_of, with_one_more_at, with_streams};
 ghost use Rattle.gw_step.specs.Blocks.{is_owed};
 ghost use Rattle.gw_step.specs.Changes as model;
 ghost use Rattle.gw_step.specs.Step as steps;
 ghost use Rattle.gw_step.specs.Times.{parameters_of};
-ghost use Rattle.gw_step.specs.Turning.{turned};
+ghost use Rattle.gw_step.specs.Turning.{turn_to};
 ghost use Rattle.gw_machine.specs.View.{state_of};
 ghost use Rattle.gw_machine.specs.Leaving.{BecomesBy, HasArrivedBelow, enters_marked, EntersWithPriority};
 ghost use Rattle.gw_transactions.specs.Parameters.{none_of};
@@ -88,9 +88,9 @@ impl Model for Machine {
 
     ghost Value = { Configuration };
 
-    ghost use Rattle.gw_machine.specs.Shown.{shown, IsLinked};
+    ghost use Rattle.gw_machine.specs.Shown.{configuration_of, IsLinked};
 
-    ghost view = { shown };
+    ghost view = { configuration_of };
 
     ghost invariant = { IsLinked };
 }
@@ -99,7 +99,7 @@ impl Model for Machine {
 pub(crate) fn raise(counts: &mut Vec<u64>, place: usize)
     requires there { place < vec_len counts.old }
     requires few { sum counts.old.items < 2 ^ 60 }
-    ensures { counts.new.items ≡ raised place counts.old.items }
+    ensures { counts.new.items ≡ with_one_more_at place counts.old.items }
 {
     counts[place] += 1;
 }
@@ -126,7 +126,7 @@ impl Machine {
         requires block { (transaction.next < length self.old.entries) × (transaction.next ≤ 4096) }
         requires few { sum self.old.entries < 2 ^ 60 }
         ensures state { state_of self.new
-            ≡ model.entered tx.number transaction next (state_of self.old) }
+            ≡ model.enter_next tx.number transaction next (state_of self.old) }
         ensures held { Holds self.new.transactions tx }
         ensures parameters { parameters_of tx.number (state_of self.new)
             ≡ parameters_of tx.number (state_of self.old) }
@@ -153,7 +153,7 @@ impl Machine {
         requires block { (transaction.next < length self.old.entries) × (transaction.next ≤ 4096) }
         requires few { sum self.old.entries < 2 ^ 60 }
         ensures state { state_of self.new
-            ≡ model.entered tx.number transaction next (state_of self.old) }
+            ≡ model.enter_next tx.number transaction next (state_of self.old) }
         ensures held { Holds self.new.transactions tx }
         ensures parameters { parameters_of tx.number (state_of self.new)
             ≡ parameters_of tx.number (state_of self.old) }
@@ -206,7 +206,7 @@ impl Machine {
     pub fn turn(&mut self, tx: Tx, transaction: Transaction, next: u16)
         requires held { Holds self.old.transactions tx }
         requires found { attributes_at tx.number self.old.transactions.txs ≡ Some transaction }
-        ensures state { state_of self.new ≡ turned tx.number transaction next (state_of self.old) }
+        ensures state { state_of self.new ≡ turn_to tx.number transaction next (state_of self.old) }
         ensures held { Holds self.new.transactions tx }
         ensures frame { self.new ≡ record self.old { transactions = self.new.transactions } }
     {
@@ -246,7 +246,7 @@ impl Machine {
         requires held { Holds self.old.transactions tx }
         requires slot { HasSlot self.old parameter }
         ensures state { state_of self.new
-            ≡ model.assigned tx.number parameter value (state_of self.old) }
+            ≡ model.assign_to tx.number parameter value (state_of self.old) }
         ensures held { Holds self.new.transactions tx }
         ensures rank { KeepsPriority tx self.old self.new }
         ensures frame { self.new ≡ record self.old { transactions = self.new.transactions } }
@@ -275,7 +275,7 @@ impl Machine {
     pub fn count_down(&mut self, by: i64)
         requires least { pos 0 <ℤ self.old.count }
         requires by { pos 0 ≤ℤ by }
-        ensures state { state_of self.new ≡ model.counted by (state_of self.old) }
+        ensures state { state_of self.new ≡ model.count_down by (state_of self.old) }
         ensures frame { self.new
             ≡ record self.old { count = self.new.count; ended = self.new.ended } }
     {

@@ -4,7 +4,7 @@ ghost use Rattle.std.specs.Prelude.{◌≡◌, ◌≤◌, ◌<◌, ◌+◌, None
 ghost use Rattle.gw_num.specs.Table.{at};
 ghost use Rattle.gw_step.specs.State.{priority_of};
 ghost use Rattle.gw_step.specs.Changes as model;
-ghost use Rattle.gw_step.specs.Placing.{woken_if_stirred, placed};
+ghost use Rattle.gw_step.specs.Placing.{woken_if_stirred, place_by};
 ghost use Rattle.gw_machine.specs.View.{state_of, entity_count};
 ghost use Rattle.gw_machine.specs.Leaving.{BecomesBy, BecomesOnOk};
 ghost use Rattle.gw_machine.specs.Coherence.{HasRoom, CanRest, CanBePlaced};
@@ -92,7 +92,7 @@ impl Machine {
     #[inline(always)]
     pub fn wake(&mut self)
         requires room { length self.old.waits.retry ≤ self.old.current_events.room }
-        ensures state { state_of self.new ≡ model.woken (state_of self.old) }
+        ensures state { state_of self.new ≡ model.wake (state_of self.old) }
         ensures room { KeepsRoomToWait self.old self.new }
         ensures left { LosesRoomToMove (length self.old.waits.retry) self.old self.new }
         ensures frame { OnlyWaking self.old self.new }
@@ -209,7 +209,7 @@ impl Machine {
     /// The active transaction is destroyed.
     fn leave_model(&mut self, tx: Tx)
         requires rests { CanRest self.old tx }
-        ensures { BecomesBy (model.destroyed tx.number) self.old self.new }
+        ensures { BecomesBy (model.destroy tx.number) self.old self.new }
     {
         let _ = self.transactions.remove(tx);
         self.active = None;
@@ -224,7 +224,7 @@ impl Machine {
         requires rests { CanRest self.old tx }
         requires wake { length self.old.waits.retry ≤ self.old.current_events.room }
         requires room { 0 < self.old.future_events.room }
-        ensures { BecomesBy (placed tx.number (Placement.RestsUntil time)) self.old self.new }
+        ensures { BecomesBy (place_by tx.number (Placement.RestsUntil time)) self.old self.new }
     {
         self.wake_if_stirred();
         self.rest_until(tx, time);
@@ -235,7 +235,7 @@ impl Machine {
     pub fn place_nowhere(&mut self, tx: Tx)
         requires rests { CanRest self.old tx }
         requires wake { length self.old.waits.retry ≤ self.old.current_events.room }
-        ensures { BecomesBy (placed tx.number Placement.LeavesModel) self.old self.new }
+        ensures { BecomesBy (place_by tx.number Placement.LeavesModel) self.old self.new }
     {
         self.wake_if_stirred();
         self.leave_model(tx);
@@ -248,7 +248,7 @@ impl Machine {
         requires rank { priority_of self.old.transactions.txs tx.number ≡ priority }
         requires room { HasRoom self.old }
         requires entity { CanBePlaced placement self.old }
-        ensures { BecomesBy (placed tx.number placement) self.old self.new }
+        ensures { BecomesBy (place_by tx.number placement) self.old self.new }
     {
         match placement {
             Placement::StaysActive => {}
@@ -287,7 +287,7 @@ impl Machine {
         requires rests { CanRest self.old tx }
         requires rank { priority_of self.old.transactions.txs tx.number ≡ priority }
         requires entity { entity < entity_count self.old }
-        ensures { BecomesOnOk result (placed tx.number (Placement.JoinsDelayList entity))
+        ensures { BecomesOnOk result (place_by tx.number (Placement.JoinsDelayList entity))
             self.old self.new }
     {
         self.reserve_wake()?;

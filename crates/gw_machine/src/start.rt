@@ -8,7 +8,7 @@ ghost use Rattle.gw_step.specs.Operands.{BlocksFit, MayDraw};
 ghost use Rattle.gw_step.specs.Start as model;
 ghost use Rattle.gw_step.specs.Start.{first_arrivals};
 ghost use Rattle.gw_machine.specs.View.{state_of};
-ghost use Rattle.gw_machine.specs.Evaluating.{IsReadable, drawn, next_environment_in};
+ghost use Rattle.gw_machine.specs.Evaluating.{IsReadable, time_of, next_environment_in};
 ghost use Rattle.gw_machine.specs.Coherence.{IsOf};
 ghost use Rattle.gw_machine.specs.Leaving.{HasArrivedBelow, SchedulesBy, SchedulesOneAtMost, nothing_but};
 ghost use Rattle.gw_machine.specs.Slots.{greatest_set};
@@ -94,7 +94,7 @@ impl Machine {
         requires interval { MayDraw verified.now (next_environment_in g.now.priority self.now) g.now.interval }
         requires streams { streams.old ≡ self.now.streams }
         ensures { model.first_moment verified.now g.now (state_of self.now) g.now.first
-            ≡ drawn result streams.new }
+            ≡ time_of result streams.new }
     {
         match g.first {
             Some(time) => Ok(time),

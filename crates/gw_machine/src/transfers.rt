@@ -46,7 +46,7 @@ fn is_seize(f: u16, block: Option<&Block>) -> bool
 
 /// The units of a storage that a block asks for, if it is its ENTER.
 pub(crate) fn asked(e: u16, block: Option<&Block>) -> Option<Units>
-    ensures { result ≡ model.asked e (option_copied block.entry) }
+    ensures { result ≡ model.units_asked e (option_copied block.entry) }
 {
     match block {
         Some(Block::Enter(units)) if units.entity == e => Some(*units),

@@ -2,7 +2,7 @@
 
 ghost use Rattle.std.specs.Prelude.{◌≡◌, ◌≤◌, ◌<◌, ◌+◌, ◌^◌, ◌⊎◌, ℕ, [], Some, option_map, map, vec_len, MatchOption, IfOk, OnOk, true, false};
 ghost use Rattle.gw_num.specs.Table.{at};
-ghost use Rattle.gw_machine.specs.Wants.{AreTold, CountsEntry, CountsLeaver, CountsNewcomer, IsAt, JoinsIfKnown, KeepsOthers, LeavesIfKnown, wanting, AllCountFewer, KeepsEntries};
+ghost use Rattle.gw_machine.specs.Wants.{AreTold, CountsEntry, CountsLeaver, CountsNewcomer, IsAt, JoinsIfKnown, KeepsOthers, LeavesIfKnown, want_count, AllCountFewer, KeepsEntries};
 ghost use Rattle.gw_machine.specs.Known.{wants_of};
 
 use crate::machine::entry_or_none;
@@ -76,7 +76,7 @@ fn one_more(want: Want, entries: u64) -> Want
 
 /// One more wants to enter a block, which has so many entries so far. It fails for want of memory.
 pub(crate) fn count_newcomer(wants: &mut Vec<Want>, block: u16, entries: u64) -> Result<(), Memory>
-    requires few { wanting block wants.old.items ≤ 2 ^ 62 }
+    requires few { want_count block wants.old.items ≤ 2 ^ 62 }
     ensures { IfOk result (λ done. CountsNewcomer block entries wants.old.items wants.new.items) }
 {
     match place_of(wants.as_slice(), block, 0) {
@@ -106,7 +106,7 @@ pub(crate) fn are_told(wants: &[Want], entries: &[u64]) -> bool
 /// weren't told of all, or there is no memory, nothing is known any longer.
 #[cold]
 fn join_known(wants: &mut Vec<Want>, block: u16, entries: &[u64])
-    requires few { AreTold entries.now wants.old.items → wanting block wants.old.items ≤ 2 ^ 62 }
+    requires few { AreTold entries.now wants.old.items → want_count block wants.old.items ≤ 2 ^ 62 }
     ensures { JoinsIfKnown block (at 0 entries.now block) wants.old.items wants.new.items }
 {
     if wants.is_empty() {
@@ -234,7 +234,7 @@ impl Wants {
     #[inline(always)]
     pub fn add_newcomer(&mut self, e: u16, block: u16, entries: &[u64])
         requires few { AreTold entries.now (at [] self.old e)
-            → wanting block (at [] self.old e) ≤ 2 ^ 62 }
+            → want_count block (at [] self.old e) ≤ 2 ^ 62 }
         ensures others { KeepsOthers e self.old self.new }
         ensures here { JoinsIfKnown block (at 0 entries.now block)
             (at [] self.old e) (at [] self.new e) }

@@ -8,7 +8,7 @@ use Rattle.gw_assemble.specs.Assembly.{Assembles, IsRefusal}
 use Rattle.gw_step.specs.Job.{Job}
 use Rattle.gw_scan.specs.Making.{job_from}
 use Rattle.gw_answers.specs.Refusal.{refusal_line}
-use Rattle.gw_answers.specs.Status.{ended, refused, run_budget}
+use Rattle.gw_answers.specs.Status.{end_status, refusal_status, run_budget}
 use Rattle.gw_answers.specs.Assembly.{HasStatements, IsRefusedText}
 use Rattle.gw_answers.specs.declared.answer.NoJob.{NoJob}
 use Rattle.gw_answers.specs.declared.answer.NoJob.TheVariants.{Refused, OutOfMemory}
@@ -57,5 +57,5 @@ FindsJobOf bytes found = Finds found (IsJobOf bytes) (IsRefusalOf bytes)
 -- the text and the status for a model text: what is shown of its job, or the line of its refusal
 abbrev pub AnswersModel : (Job → List ℕ → Type 0) → List ℕ → List ℕ → ℕ → Type 0
 AnswersModel Shows bytes text status =
-    ((status ≡ ended) × ((j : Job) × IsJobOf bytes j × Shows j text))
-    ⊎ ((status ≡ refused) × ((fault : Fault) × IsRefusalOf bytes fault × (text ≡ refusal_line fault)))
+    ((status ≡ end_status) × ((j : Job) × IsJobOf bytes j × Shows j text))
+    ⊎ ((status ≡ refusal_status) × ((fault : Fault) × IsRefusalOf bytes fault × (text ≡ refusal_line fault)))

@@ -15,7 +15,7 @@ use Rattle.gw_rules.specs.declared.entities.EntityKind.TheVariants as kinds
 use Rattle.gw_names.specs.declared.entities.ByKind.{ByKind}
 use Rattle.gw_rules.specs.declared.entities.EntityKind.{EntityKind}
 use Rattle.gw_names.specs.Known.{key, found_in, entity_of}
-use Rattle.gw_names.specs.Places.{last_by, last_of, Adds, AddsEntities, named, places_from, counted, block_label, block_labels, number_below, numbers_below}
+use Rattle.gw_names.specs.Places.{last_by, last_of, Adds, AddsEntities, name_entry, places_from, blocks_up_to, block_label, block_labels, number_below, numbers_below}
 
 pub or_none : {X : Type 0} (o : Option X) → option_or o None ≡ o
 or_none None = refl
@@ -141,18 +141,18 @@ next_statement ss i s within is =
     drop-cons ss i s within ∙ ap (λ x. x ∷ drop (suc i) ss) (sym is) ∙ ap (λ k. s ∷ drop k ss) (sym (add-one i))
 
 -- what it declares comes
-pub places_step : {K : Type 0} (declared : Statement → Option K) (test : K → Bool) (ss : List Statement) (i : ℕ) (s : Statement) (before after total : Option ℕ) → i < length ss → s ≡ get_or ss i s → after ≡ option_or (last_by test (named (declared s) i)) before → total ≡ option_or (last_by test (places_from declared i (drop i ss))) before → total ≡ option_or (last_by test (places_from declared (i + 1) (drop (i + 1) ss))) after
+pub places_step : {K : Type 0} (declared : Statement → Option K) (test : K → Bool) (ss : List Statement) (i : ℕ) (s : Statement) (before after total : Option ℕ) → i < length ss → s ≡ get_or ss i s → after ≡ option_or (last_by test (name_entry (declared s) i)) before → total ≡ option_or (last_by test (places_from declared i (drop i ss))) before → total ≡ option_or (last_by test (places_from declared (i + 1) (drop (i + 1) ss))) after
 places_step declared test ss i s before after total within is adds so_far =
     so_far
     ∙ ap (λ l. option_or (last_by test (places_from declared i l)) before) (next_statement ss i s within is)
-    ∙ comes test (named (declared s) i) (places_from declared (i + 1) (drop (i + 1) ss)) before after adds
+    ∙ comes test (name_entry (declared s) i) (places_from declared (i + 1) (drop (i + 1) ss)) before after adds
 
 -- and the number of a block
-pub labels_step : (ss : List Statement) (i n more : ℕ) (s : Statement) (label : List ℕ) (before after total : Option ℕ) → i < length ss → s ≡ get_or ss i s → more ≡ counted n s → after ≡ option_or (last_of (block_label n s) label) before → total ≡ option_or (last_of (block_labels n (drop i ss)) label) before → total ≡ option_or (last_of (block_labels more (drop (i + 1) ss)) label) after
+pub labels_step : (ss : List Statement) (i n more : ℕ) (s : Statement) (label : List ℕ) (before after total : Option ℕ) → i < length ss → s ≡ get_or ss i s → more ≡ blocks_up_to n s → after ≡ option_or (last_of (block_label n s) label) before → total ≡ option_or (last_of (block_labels n (drop i ss)) label) before → total ≡ option_or (last_of (block_labels more (drop (i + 1) ss)) label) after
 labels_step ss i n more s label before after total within is counts adds so_far =
     so_far
     ∙ ap (λ l. option_or (last_of (block_labels n l) label) before) (next_statement ss i s within is)
-    ∙ comes (bytes_eq label) (block_label n s) (block_labels (counted n s) (drop (i + 1) ss)) before after adds
+    ∙ comes (bytes_eq label) (block_label n s) (block_labels (blocks_up_to n s) (drop (i + 1) ss)) before after adds
     ∙ ap (λ k. option_or (last_of (block_labels k (drop (i + 1) ss)) label) after) (sym counts)
 
 -- and of an EQU

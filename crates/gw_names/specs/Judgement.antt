@@ -46,23 +46,23 @@ declared_by known = record {
 }
 
 -- how an entity of a kind is refused that nothing declares: what a text makes by its use isn't
-abbrev pub undeclared : EntityKind → Option ℕ
-undeclared kinds.Storage = Some storage_fault
-undeclared kinds.Table = Some name_fault
-undeclared kinds.Function = Some name_fault
-undeclared kinds.Variable = Some name_fault
-undeclared kinds.BooleanVariable = Some name_fault
-undeclared kinds.Facility = None
-undeclared kinds.Queue = None
-undeclared kinds.Switch = None
-undeclared kinds.Savevalue = None
-undeclared kinds.Chain = None
-undeclared kinds.StorageOrQueue = None
+abbrev pub undeclared_code : EntityKind → Option ℕ
+undeclared_code kinds.Storage = Some storage_fault
+undeclared_code kinds.Table = Some name_fault
+undeclared_code kinds.Function = Some name_fault
+undeclared_code kinds.Variable = Some name_fault
+undeclared_code kinds.BooleanVariable = Some name_fault
+undeclared_code kinds.Facility = None
+undeclared_code kinds.Queue = None
+undeclared_code kinds.Switch = None
+undeclared_code kinds.Savevalue = None
+undeclared_code kinds.Chain = None
+undeclared_code kinds.StorageOrQueue = None
 
 -- that refusal where no statement declares it
 abbrev pub unless_declared : EntityKind → Option ℕ → Option ℕ
 unless_declared kind (Some statement) = None
-unless_declared kind None = undeclared kind
+unless_declared kind None = undeclared_code kind
 
 -- 80 Name unless this holds
 abbrev pub named_if : Bool → Option ℕ

@@ -51,14 +51,14 @@ abbrev pub entry : {X : Type 0} → EntityKind → List ℕ → X → List (Key 
 entry kind name x = (key kind name, x) ∷ []
 
 -- what has a name, where it has one
-abbrev pub named : {K X : Type 0} → Option K → X → List (K × X)
-named None x = []
-named (Some k) x = (k, x) ∷ []
+abbrev pub name_entry : {K X : Type 0} → Option K → X → List (K × X)
+name_entry None x = []
+name_entry (Some k) x = (k, x) ∷ []
 
 -- the places of statements, by what each declares; the first of these has this place
 abbrev pub places_from : {K : Type 0} → (Statement → Option K) → ℕ → List Statement → List (K × ℕ)
 places_from declared i [] = []
-places_from declared i (s ∷ ss) = named (declared s) i ++ places_from declared (i + 1) ss
+places_from declared i (s ∷ ss) = name_entry (declared s) i ++ places_from declared (i + 1) ss
 
 -- LABELS
 
@@ -72,7 +72,7 @@ declared_entity s = option_and_then (λ kind. option_map (key kind) (label_of s)
 
 -- with the place of the statement
 abbrev pub declared_at : ℕ → Statement → List (Key × ℕ)
-declared_at i s = named (declared_entity s) i
+declared_at i s = name_entry (declared_entity s) i
 
 -- the entities that statements declare, of which the first has this place
 abbrev pub declared_from : ℕ → List Statement → List (Key × ℕ)
@@ -115,17 +115,17 @@ unfoldable pub next_block : ℕ → ℕ
 next_block n = if nat_lt n 65535 then n + 1 else 65535
 
 -- how many blocks there are up to a statement, where there were so many before it
-abbrev pub counted : ℕ → Statement → ℕ
-counted n s = if is_block s.word then next_block n else n
+abbrev pub blocks_up_to : ℕ → Statement → ℕ
+blocks_up_to n s = if is_block s.word then next_block n else n
 
 -- the number that a statement gives to its label
 abbrev pub block_label : ℕ → Statement → List (List ℕ × ℕ)
-block_label n s = if is_block s.word then named (label_of s) (next_block n) else []
+block_label n s = if is_block s.word then name_entry (label_of s) (next_block n) else []
 
 -- the numbers of blocks by label, where there were so many before these statements
 abbrev pub block_labels : ℕ → List Statement → List (List ℕ × ℕ)
 block_labels n [] = []
-block_labels n (s ∷ ss) = block_label n s ++ block_labels (counted n s) ss
+block_labels n (s ∷ ss) = block_label n s ++ block_labels (blocks_up_to n s) ss
 
 -- the number of the last block of a label, from 1
 abbrev pub block_of : List Statement → List ℕ → Option ℕ
@@ -164,11 +164,11 @@ equ_number_of statements = numbers_below (λ name. None) statements
 module _ {A E : Type 0} (result : Result A E) (old new : Places) (statement : Statement) where
   -- where there is memory, the PROCEDURE that a statement at this place declares, if it does, stands for it from now on
   abbrev pub SetsProcedure : ℕ → Type 0
-  SetsProcedure place = Sets result old.procedures new.procedures (named (declared_procedure statement) place)
+  SetsProcedure place = Sets result old.procedures new.procedures (name_entry (declared_procedure statement) place)
 
   -- and so does its EQU
   abbrev pub SetsEqu : ℕ → Type 0
-  SetsEqu place = Sets result old.equs new.equs (named (declared_equ statement) place)
+  SetsEqu place = Sets result old.equs new.equs (name_entry (declared_equ statement) place)
 
   -- where there is memory, names are the numbers that they are below the statement
   abbrev pub SetsNumber : Type 0

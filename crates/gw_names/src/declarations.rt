@@ -2,7 +2,7 @@
 
 ghost use Rattle.std.specs.Prelude.{◌≡◌};
 ghost use Rattle.gw_names.specs.Places as model;
-ghost use Rattle.gw_names.specs.Places.{Sets, SetsKeys, named, declared_at, declared_from};
+ghost use Rattle.gw_names.specs.Places.{Sets, SetsKeys, name_entry, declared_at, declared_from};
 ghost use Rattle.gw_names.specs.Places.{declared_equ, declared_procedure};
 
 use crate::entities::Declarations;
@@ -53,7 +53,7 @@ pub(crate) fn set_equ(
     place: usize,
     statement: &Statement,
 ) -> Result<(), AllocError>
-    ensures { Sets result equs.old equs.new (named (declared_equ statement.now) place) }
+    ensures { Sets result equs.old equs.new (name_entry (declared_equ statement.now) place) }
 {
     if is_equ(statement.word) {
         set_label(equs, &statement.label, place)
@@ -68,7 +68,7 @@ pub(crate) fn set_procedure(
     place: usize,
     statement: &Statement,
 ) -> Result<(), AllocError>
-    ensures { Sets result places.old places.new (named (declared_procedure statement.now) place) }
+    ensures { Sets result places.old places.new (name_entry (declared_procedure statement.now) place) }
 {
     match &statement.body {
         Body::Procedure(procedure) => set(places, &procedure.name, place),

@@ -18,7 +18,7 @@ use std::alloc::{AllocError, Global};
 
 /// How an entity is refused that nothing declares: 80 Name where its kind has to be declared, and 81 Storage for a storage.
 fn undeclared(kind: EntityKind) -> Option<u16>
-    ensures { result ≡ model.undeclared kind }
+    ensures { result ≡ model.undeclared_code kind }
 {
     match kind {
         EntityKind::Storage => Some(codes::STORAGE),

@@ -23,7 +23,7 @@ pub(crate) fn count(
     number: u16,
     statement: &Statement,
 ) -> Result<u16, AllocError>
-    ensures counted { IfOk result (λ after. after ≡ model.counted number statement.now) }
+    ensures counted { IfOk result (λ after. after ≡ model.blocks_up_to number statement.now) }
     ensures added { Sets result blocks.old blocks.new (block_label number statement.now) }
 {
     if statement.word.is_block() {

@@ -2,7 +2,7 @@
 
 ghost use Rattle.std.specs.Prelude.{◌≡◌, ◌∷◌, [], option_map, string_bytes};
 ghost use Rattle.gw_names.specs.Known.{found_in};
-ghost use Rattle.gw_names.specs.Places.{Sets, named};
+ghost use Rattle.gw_names.specs.Places.{Sets, name_entry};
 
 use indexmap::IndexMap;
 use std::alloc::AllocError;
@@ -33,7 +33,7 @@ pub fn set_label<T: Drop>(
     label: &Option<String>,
     value: T,
 ) -> Result<(), AllocError>
-    ensures { Sets result map.old map.new (named (option_map string_bytes label.now) value) }
+    ensures { Sets result map.old map.new (name_entry (option_map string_bytes label.now) value) }
 {
     match label {
         Some(label) => set(map, label, value),

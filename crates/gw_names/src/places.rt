@@ -33,7 +33,7 @@ fn add(
     place: usize,
     statement: &Statement,
 ) -> Result<u16, AllocError>
-    ensures counted { IfOk result (λ after. after ≡ model.counted blocks statement.now) }
+    ensures counted { IfOk result (λ after. after ≡ model.blocks_up_to blocks statement.now) }
     ensures blocks { Sets result places.old.blocks places.new.blocks
         (model.block_label blocks statement.now) }
     ensures procedures { SetsProcedure result places.old places.new statement.now place }

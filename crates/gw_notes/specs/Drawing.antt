@@ -22,13 +22,13 @@ is_zero (Constant number) = int_eq number (pos 0)
 is_zero operand = false
 
 -- how often an operand draws from a stream: once where it is RN, or a function of that
-abbrev pub drawn : List Entity → ℕ → Operand → ℕ
-drawn es stream operand = if is_random stream (source_of es operand) then 1 else 0
+abbrev pub draws_of : List Entity → ℕ → Operand → ℕ
+draws_of es stream operand = if is_random stream (source_of es operand) then 1 else 0
 
 -- the same of an operand that may not be there
 abbrev pub drawn_if : List Entity → ℕ → Option Operand → ℕ
 drawn_if es stream None = 0
-drawn_if es stream (Some operand) = drawn es stream operand
+drawn_if es stream (Some operand) = draws_of es stream operand
 
 -- how often a random time draws itself: from the first stream, but where its half is the number 0
 abbrev pub own_draws : ℕ → Spread → ℕ
@@ -36,7 +36,7 @@ own_draws stream time = if nat_eq stream 1 && not (is_zero time.half) then 1 els
 
 -- how often a random time draws at most
 abbrev pub time_draws : List Entity → ℕ → Spread → ℕ
-time_draws es stream time = drawn es stream time.mean + drawn es stream time.half + own_draws stream time
+time_draws es stream time = draws_of es stream time.mean + draws_of es stream time.half + own_draws stream time
 
 -- how often a block draws at most where it is met once: for its operands, for a random time, or to
 -- choose a way
@@ -44,12 +44,12 @@ unfoldable pub draws_at : List Entity → ℕ → Block → ℕ
 draws_at es stream (Generate g) = time_draws es stream g.interval
 draws_at es stream (Advance time) = time_draws es stream time
 draws_at es stream (TransferByFraction fraction) = if nat_eq stream 1 then 1 else 0
-draws_at es stream (Terminate by) = drawn es stream by
-draws_at es stream (Assign assign) = drawn es stream assign.value
-draws_at es stream (Savevalue save) = drawn es stream save.value
-draws_at es stream (Test test) = drawn es stream test.left + drawn es stream test.right
-draws_at es stream (Priority change) = drawn es stream change.value
-draws_at es stream (Plus plus) = drawn es stream plus.value
+draws_at es stream (Terminate by) = draws_of es stream by
+draws_at es stream (Assign assign) = draws_of es stream assign.value
+draws_at es stream (Savevalue save) = draws_of es stream save.value
+draws_at es stream (Test test) = draws_of es stream test.left + draws_of es stream test.right
+draws_at es stream (Priority change) = draws_of es stream change.value
+draws_at es stream (Plus plus) = draws_of es stream plus.value
 draws_at es stream (Tabulate table) = drawn_if es stream (operand_at es table)
 draws_at es stream block = 0
 

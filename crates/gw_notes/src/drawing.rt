@@ -29,7 +29,7 @@ pub(crate) fn is_zero(operand: Operand) -> bool
 
 /// How often an operand draws from a stream.
 fn drawn(entities: &[Entity], stream: u8, operand: Operand) -> u64
-    ensures value { result ≡ model.drawn entities.now stream operand }
+    ensures value { result ≡ model.draws_of entities.now stream operand }
     ensures range { result ≤ 1 }
 {
     if is_random(source_of(entities, operand), stream) {

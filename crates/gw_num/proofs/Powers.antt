@@ -3,7 +3,7 @@ use Rattle.std.proofs.Common.{◌≡◌, refl, ap, ◌∙◌, sym, ℕ, zero, su
 use Rattle.std.proofs.Math.Nat.{pow-suc, pow-zero, pow-le-pow_left, pow-le-pow_right}
 use Rattle.std.proofs.lemmas.Bool.{cond-false}
 use Rattle.std.specs.Int.{int_pow}
-use Rattle.gw_num.specs.Arithmetic.{fits_i64, fitted, PowerLaw}
+use Rattle.gw_num.specs.Arithmetic.{fits_i64, within_i64, PowerLaw}
 use Rattle.gw_num.specs.declared.arithmetic.NumFault.TheVariants.{Number}
 
 pow_of_zero : (e : ℕ) → 0 < e → 0 ^ e ≡ 0
@@ -18,21 +18,21 @@ two_up : (m e : ℕ) → 2 ≤ m → 64 ≤ e → 2 ^ 64 ≤ m ^ e
 two_up m e h k = le_trans (pow-le-pow_right (lit< tt) k) (pow-le-pow_left h e)
 
 -- a number so large fits with neither sign
-too_large : (m : ℕ) → 2 ^ 64 ≤ m → fitted (pos m) ≡ Err Number
+too_large : (m : ℕ) → 2 ^ 64 ≤ m → within_i64 (pos m) ≡ Err Number
 too_large m h = cond-false (fits_i64 (pos m)) _ _ (le-ltb m (2 ^ 63) (omega arith))
 
-too_small : (m : ℕ) → 2 ^ 64 ≤ m → fitted (neg_ℤ (pos m)) ≡ Err Number
+too_small : (m : ℕ) → 2 ^ 64 ≤ m → within_i64 (neg_ℤ (pos m)) ≡ Err Number
 too_small zero h = absurd (omega arith)
 too_small (suc m) h = cond-false (fits_i64 (negsuc m)) _ _ (le-ltb m (2 ^ 63) (omega arith))
 
-of_parity : (even : Bool) (m : ℕ) → 2 ^ 64 ≤ m → fitted (cond even (pos m) (neg_ℤ (pos m))) ≡ Err Number
+of_parity : (even : Bool) (m : ℕ) → 2 ^ 64 ≤ m → within_i64 (cond even (pos m) (neg_ℤ (pos m))) ≡ Err Number
 of_parity true m h = too_large m h
 of_parity false m h = too_small m h
 
 -- above 64 an exponent gives the same power, or none that fits, as 64 or 65 with its parity
-pub far_power : (a : ℤ) (n : ℕ) → 64 < n → fitted (int_pow a (64 + n % 2)) ≡ fitted (int_pow a n)
-far_power (pos zero) n h = ap (λ m. fitted (pos m)) (pow_of_zero (64 + n % 2) (omega arith) ∙ sym (pow_of_zero n (omega arith)))
-far_power (pos (suc zero)) n h = ap (λ m. fitted (pos m)) (pow_of_one (64 + n % 2) ∙ sym (pow_of_one n))
+pub far_power : (a : ℤ) (n : ℕ) → 64 < n → within_i64 (int_pow a (64 + n % 2)) ≡ within_i64 (int_pow a n)
+far_power (pos zero) n h = ap (λ m. within_i64 (pos m)) (pow_of_zero (64 + n % 2) (omega arith) ∙ sym (pow_of_zero n (omega arith)))
+far_power (pos (suc zero)) n h = ap (λ m. within_i64 (pos m)) (pow_of_one (64 + n % 2) ∙ sym (pow_of_one n))
 far_power (pos (suc (suc a))) n h =
     too_large _ (two_up (suc (suc a)) (64 + n % 2) (omega arith) (omega arith))
     ∙ sym (too_large _ (two_up (suc (suc a)) n (omega arith) (omega arith)))

@@ -4,7 +4,7 @@
 
 ghost use Rattle.std.specs.Prelude.{◌≡◌, ◌≤◌, ℤ};
 ghost use Rattle.std.specs.Int.{int_pow};
-ghost use Rattle.gw_num.specs.Arithmetic.{fitted, sum_of, difference_of, product_of, negative_of, quotient_of, remainder_of, power_of};
+ghost use Rattle.gw_num.specs.Arithmetic.{within_i64, sum_of, difference_of, product_of, negative_of, quotient_of, remainder_of, power_of};
 
 /// Why an operation gives no value.
 #[derive(Clone, Copy, Debug, PartialEq, Eq)]
@@ -82,7 +82,7 @@ pub fn pow(a: i64, b: i64) -> Result<i64, NumFault>
 #[tactic(auto, using(crate::proofs::Powers::far_power))]
 fn small_exponent(exponent: u64) -> u32
     ensures small { result ≤ 65 }
-    ensures same { (a : ℤ) → fitted (int_pow a result) ≡ fitted (int_pow a exponent) }
+    ensures same { (a : ℤ) → within_i64 (int_pow a result) ≡ within_i64 (int_pow a exponent) }
 {
     if exponent <= 64 {
         exponent as u32

@@ -1,7 +1,7 @@
 //! Streams of random numbers. The generator is ours: docs/numbers.md.
 
 ghost use Rattle.std.specs.Prelude.{◌≡◌, ◌+◌, ◌*◌, ◌%◌, pos, unsigned_abs, ◌≤ℤ◌, SomeIff, IfOk, OnErr};
-ghost use Rattle.gw_num.specs.Arithmetic.{fitted};
+ghost use Rattle.gw_num.specs.Arithmetic.{within_i64};
 ghost use Rattle.gw_num.specs.Generator.{IsSeed, next_after, time_at, with_stream, drawn_time};
 
 use crate::arithmetic::{NumFault, add, mul, sub};
@@ -125,7 +125,7 @@ fn time_of(mean: i64, half: i64, x: u32) -> Result<i64, NumFault>
 // How many times lie from `mean - half` to `mean + half`.
 fn width_of(half: i64) -> Result<i64, NumFault>
     requires { pos 0 ≤ℤ half }
-    ensures { result ≡ fitted (pos (2 * unsigned_abs half + 1)) }
+    ensures { result ≡ within_i64 (pos (2 * unsigned_abs half + 1)) }
 {
     add(mul(2, half)?, 1)
 }

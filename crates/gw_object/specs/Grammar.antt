@@ -12,7 +12,7 @@ use Rattle.gw_object.specs.declared.parts.TableParameter.{TableParameter}
 use Rattle.gw_object.specs.declared.parts.TableState.{TableState}
 use Rattle.gw_object.specs.declared.parts.ReturnRow.{ReturnRow}
 use Rattle.gw_object.specs.declared.parts.Parts.{Parts}
-use Rattle.gw_fields.specs.Fields.{Read, Field, number, as_type, tested, both, and_then, constant, fitting, ranged, optional, Form, behind, by_tag, nothing, Element, plain, last_tested, ascending, above_last, elements, listed}
+use Rattle.gw_fields.specs.Fields.{Read, Field, number, as_type, field_with_test, both, and_then, constant, field_that_fits, number_between, optional, Form, behind, by_tag, nothing, Element, plain, last_tested, ascending_element, above_last, elements, list_of}
 use Rattle.gw_code.specs.Grammar.{ProcedureFits, NeedsAscend, procedure}
 use Rattle.gw_object.specs.Entities.{entity, EntityFits, EntityAscends, IsLettered, AreNamesakes, chains_in}
 use Rattle.gw_blocks.specs.Grammar.{entity_number, block_number, parameter_number, IsOfVersion, BlockFits, block}
@@ -20,8 +20,8 @@ use Rattle.gw_blocks.specs.Grammar.{entity_number, block_number, parameter_numbe
 -- ---- what stands for each block
 
 -- the blocks of a return row, each above the one before it
-abbrev pub returned : Element ℕ
-returned = above_last block_number
+abbrev pub return_block : Element ℕ
+return_block = above_last block_number
 
 -- the number of blocks, and each block's number, are within limits
 pub record ReturnRowFits (row : ReturnRow) : Type 0 where
@@ -35,7 +35,7 @@ AreAscending row = AllPairs (λ a b. a < b) row.blocks
 
 -- a return row: at least one block
 unfoldable pub return_row : Field ReturnRow
-return_row = fitting (λ row. ReturnRowFits row × AreAscending row) (as_type (λ blocks. record { blocks = blocks }) (λ row. row.blocks) (listed 1 most_blocks returned))
+return_row = field_that_fits (λ row. ReturnRowFits row × AreAscending row) (as_type (λ blocks. record { blocks = blocks }) (λ row. row.blocks) (list_of 1 most_blocks return_block))
 
 -- a return row's number
 abbrev pub row_number : Field ℕ
@@ -70,15 +70,15 @@ pub record ParameterFits (p : TableParameter) : Type 0 where
 
 -- a parameter that is set, above the one before it
 abbrev pub parameter : Element TableParameter
-parameter = ascending nat_lt (λ (n, kind). record { number = n; kind = kind }) (λ p. (p.number, p.kind)) parameter_number table_kind
+parameter = ascending_element nat_lt (λ (n, kind). record { number = n; kind = kind }) (λ p. (p.number, p.kind)) parameter_number table_kind
 
 -- a facility that a transaction owns, above the one before it
-abbrev pub owned : Element ℕ
-owned = above_last entity_number
+abbrev pub owned_facility : Element ℕ
+owned_facility = above_last entity_number
 
 -- units that a transaction holds, of an entity above the one before it
-abbrev pub held : Element Units
-held = ascending nat_lt (λ (entity, n). record { entity = entity; number = n }) (λ u. (u.entity, u.number)) entity_number (ranged 1 greatest_units (number w32))
+abbrev pub held_units : Element Units
+held_units = ascending_element nat_lt (λ (entity, n). record { entity = entity; number = n }) (λ u. (u.entity, u.number)) entity_number (number_between 1 greatest_units (number w32))
 
 -- the entity's number fits, and the number of units is within limits
 pub record HeldFits (u : Units) : Type 0 where
@@ -103,14 +103,14 @@ pub record IsAscending (s : TableState) : Type 0 where
 
 -- parameters, facilities and units
 unfoldable pub state : Field TableState
-state = fitting (λ s. StateFits s × IsAscending s) (as_type
+state = field_that_fits (λ s. StateFits s × IsAscending s) (as_type
     (λ (parameters, (facilities, units)). record { parameters = parameters; facilities = facilities; units = units })
     (λ s. (s.parameters, (s.facilities, s.units)))
-    (both (listed 0 most_parameters parameter) (both (listed 0 most_entities owned) (listed 0 most_entities held))))
+    (both (list_of 0 most_parameters parameter) (both (list_of 0 most_entities owned_facility) (list_of 0 most_entities held_units))))
 
 -- a certified weight
 abbrev pub weight : Field ℕ
-weight = ranged 1 greatest_weight (number w32)
+weight = number_between 1 greatest_weight (number w32)
 
 -- so many rows of the state table
 abbrev pub rows : ℕ → Field (List (Option TableState))
@@ -118,11 +118,11 @@ rows n = elements (plain (optional state)) n
 
 -- a slope: the number of a parameter, and how much a weight grows with each unit of its value above 0
 abbrev pub parameter_slope : Field (ℕ × ℕ)
-parameter_slope = both parameter_number (ranged 1 greatest_weight (number w32))
+parameter_slope = both parameter_number (number_between 1 greatest_weight (number w32))
 
 -- no slope, as this field tells it
 abbrev pub no_slope : Field (Unit {0}) → Field (Option (ℕ × ℕ))
-no_slope f = fitting (λ slope. slope ≡ None) (as_type (λ _. None) (λ _. tt) f)
+no_slope f = field_that_fits (λ slope. slope ≡ None) (as_type (λ _. None) (λ _. tt) f)
 
 -- whether a slope stands behind each weight of a block: not in version 1
 abbrev pub has_slopes : ℕ → Bool
@@ -150,7 +150,7 @@ pub record CertificateFits (version n : ℕ) (x : List ℕ × List (Option (ℕ 
 
 -- the weights and the slopes of so many blocks
 abbrev pub certificate : ℕ → ℕ → Field (List ℕ × List (Option (ℕ × ℕ)))
-certificate version n = fitting (CertificateFits version n) (as_type (λ xs. (map (λ x. x.0) xs, map (λ x. x.1) xs)) (λ x. zip x.0 x.1) (elements (plain (sloped_weight version)) n))
+certificate version n = field_that_fits (CertificateFits version n) (as_type (λ xs. (map (λ x. x.0) xs, map (λ x. x.1) xs)) (λ x. zip x.0 x.1) (elements (plain (sloped_weight version)) n))
 
 -- the weights of so many user chains
 abbrev pub chain_certificate : ℕ → Field (List ℕ)
@@ -158,7 +158,7 @@ chain_certificate n = elements (plain weight) n
 
 -- the return rows, for each of so many blocks and each of so many user chains its row of the state table, and for each its weight, with the blocks' slopes
 unfoldable pub tables : ℕ → ℕ → ℕ → Field (List ReturnRow × (List (Option TableState) × (List (Option TableState) × ((List ℕ × List (Option (ℕ × ℕ))) × List ℕ))))
-tables version blocks chains = both (listed 0 most_return_rows (plain return_row)) (both (rows blocks) (both (rows chains) (both (certificate version blocks) (chain_certificate chains))))
+tables version blocks chains = both (list_of 0 most_return_rows (plain return_row)) (both (rows blocks) (both (rows chains) (both (certificate version blocks) (chain_certificate chains))))
 
 -- ---- the object
 
@@ -168,7 +168,7 @@ is_version n = n == 1 || n == 2
 
 -- the version's number
 abbrev pub version_number : Field ℕ
-version_number = fitting (λ n. IsTrue (is_version n)) (tested is_version codes.version (number w16))
+version_number = field_that_fits (λ n. IsTrue (is_version n)) (field_with_test is_version codes.version (number w16))
 
 -- the letters GPSO and the version
 unfoldable pub head : Field (Unit {0} × ℕ)
@@ -176,11 +176,11 @@ head = both (constant 0x4750_534f codes.magic (number w32)) version_number
 
 -- a seed; the last isn't 0
 abbrev pub seed : Element ℕ
-seed = last_tested (nat_lt 0) codes.not_canonical (ranged 0 greatest_seed (number w32))
+seed = last_tested (nat_lt 0) codes.not_canonical (number_between 0 greatest_seed (number w32))
 
 -- the termination count
 abbrev pub start_count : Field ℕ
-start_count = ranged 1 greatest_count (number w64)
+start_count = number_between 1 greatest_count (number w64)
 
 -- the head, seeds, termination count, entities, procedures, blocks, and what stands for each block and each user chain
 unfoldable pub object : Field Parts
@@ -189,8 +189,8 @@ object = as_type
         record { version = version; seeds = seeds; count = count; entities = entities; procedures = procedures; blocks = blocks;
             returns = returns; states = states; chain_states = chain_states; weights = weights; slopes = slopes; chain_weights = chain_weights })
     (λ p. ((tt, p.version), (p.seeds, (p.count, (p.entities, (p.procedures, (p.blocks, (p.returns, (p.states, (p.chain_states, ((p.weights, p.slopes), p.chain_weights)))))))))))
-    (and_then head (λ head. both (listed 0 most_seeds seed) (both start_count (and_then (listed 0 most_entities entity) (λ entities. both (listed 0 most_procedures (plain procedure))
-    (and_then (listed 0 most_blocks (plain (block head.1))) (λ blocks. tables head.1 (length blocks) (chains_in entities))))))))
+    (and_then head (λ head. both (list_of 0 most_seeds seed) (both start_count (and_then (list_of 0 most_entities entity) (λ entities. both (list_of 0 most_procedures (plain procedure))
+    (and_then (list_of 0 most_blocks (plain (block head.1))) (λ blocks. tables head.1 (length blocks) (chains_in entities))))))))
 
 -- the bytes that spell parts
 unfoldable pub spelling : Parts → List ℕ

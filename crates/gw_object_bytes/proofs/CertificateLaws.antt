@@ -7,7 +7,7 @@ use Rattle.std.proofs.lemmas.List.{length-map, get_or_default}
 use Rattle.std.proofs.lemmas.List.Elements.{All-map}
 use Rattle.std.proofs.lemmas.Slice.Zip.{length-zip, firsts-zip, seconds-zip, get_or-zip}
 use Rattle.gw_object.specs.Limits.{greatest_weight}
-use Rattle.gw_fields.specs.Fields.{Field, number, as_type, fitting, nothing, plain, elements}
+use Rattle.gw_fields.specs.Fields.{Field, number, as_type, field_that_fits, nothing, plain, elements}
 use Rattle.gw_object.specs.Grammar.{weight, parameter_slope, no_slope, has_slopes, slope_where, slope, IsSlopeOfVersion, SlopeFits, sloped_weight, CertificateFits, certificate}
 use Rattle.gw_block_bytes.proofs.BlockLaws.{parameter_number_exact}
 use Rattle.gw_field_bytes.specs.Receivers.{Content, with_bytes}
@@ -30,7 +30,7 @@ one_more_weight version weights slopes i w s start before behind lt weight_is sl
 
 -- a field's value under another type, where the values that fit are told in other words
 made_fitting_exact : {A B : Type 0} (make : A → B) (back : B → A) (f : Field A) (Fits : B → Type 0) → ((x : A) → f.Fits x → (back (make x) ≡ x) × Fits (make x)) → ((y : B) → Fits y → (make (back y) ≡ y) × f.Fits (back y)) → IsExact f
-    → IsExact (fitting Fits (as_type make back f))
+    → IsExact (field_that_fits Fits (as_type make back f))
 made_fitting_exact {A} {B} make back f Fits there here exact = record {
   takes = λ bytes x fits e.
       let a = bind_ok (f.read bytes) (λ x. Ok (make x.0, x.1)) x e in

@@ -14,7 +14,7 @@ use Rattle.gw_object.specs.Limits.{most_letters}
 use Rattle.gw_object.specs.declared.parts.Kind.{Kind}
 use Rattle.gw_object.specs.declared.parts.Kind.TheVariants.{Facility, Storage, Queue, Switch, Savevalue, Table, Chain, Variable, BooleanVariable, Function}
 use Rattle.gw_object.specs.declared.parts.Entity.{Entity}
-use Rattle.gw_fields.specs.Fields.{Field, byte, flag, tested, both, nothing, form_read, by_tag, plain, ElementsFit}
+use Rattle.gw_fields.specs.Fields.{Field, byte, flag, field_with_test, both, nothing, form_read, by_tag, plain, ElementsFit}
 use Rattle.gw_blocks.specs.Grammar.{procedure_number}
 use Rattle.gw_object.specs.Entities.{is_letter, letter, name, kind_tag, capacity, initial_value, table, function, kind_fields, KindFits, KindAscends, IsLettered, EntityFits, EntityAscends, IsNamed, AreNamesakes, is_named, new_name, kind_form, kind_forms, entity_spelling, entity_read, FitsBehind, entity}
 use Rattle.gw_object_bytes.proofs.KindLaws.{capacity_exact, initial_value_exact, table_exact, function_exact}
@@ -28,7 +28,7 @@ letter_is_byte : (b : ℕ) → IsTrue (is_letter b) → b < 256
 letter_is_byte b h = grind (arith, nat_tests)
 
 letter_exact : IsExact letter
-letter_exact = fitting_exact (λ b. IsTrue (is_letter b)) (tested is_letter codes.tag byte) (λ b h. h.1) (λ b h. (letter_is_byte b h, h)) (tested_exact is_letter codes.tag byte byte_exact)
+letter_exact = fitting_exact (λ b. IsTrue (is_letter b)) (field_with_test is_letter codes.tag byte) (λ b h. h.1) (λ b h. (letter_is_byte b h, h)) (tested_exact is_letter codes.tag byte byte_exact)
 
 name_exact : IsExact name
 name_exact = listed_exact 1 most_letters (plain letter) (omega arith) (plain_exact letter letter_exact)

@@ -5,7 +5,7 @@ use Rattle.std.specs.Int.{w16, w32, w64}
 use Rattle.gw_object.specs.Limits.{greatest_capacity, greatest_width, least_classes, most_classes, most_points}
 use Rattle.gw_object.specs.declared.parts.Point.{Point}
 use Rattle.gw_object.specs.declared.parts.Function.{Function}
-use Rattle.gw_fields.specs.Fields.{number, signed, ElementsFit}
+use Rattle.gw_fields.specs.Fields.{number, signed_number, ElementsFit}
 use Rattle.gw_blocks.specs.Grammar.{OperandFits}
 use Rattle.gw_object.specs.Entities.{capacity, initial_value, TableFits, table, PointFits, point, FunctionFits, PointsAscend, function}
 use Rattle.gw_block_bytes.proofs.BlockLaws.{operand_exact}
@@ -35,7 +35,7 @@ abbrev x_and_y : Point → ℤ × ℤ
 x_and_y p = (p.x, p.y)
 
 point_exact : IsExactElement point
-point_exact = ascending_exact int_lt point_of x_and_y (signed w64) (signed w64) (λ x. refl) (λ p. refl) (signed_exact w64 wide64) (signed_exact w64 wide64)
+point_exact = ascending_exact int_lt point_of x_and_y (signed_number w64) (signed_number w64) (λ x. refl) (λ p. refl) (signed_exact w64 wide64) (signed_exact w64 wide64)
 
 -- the argument and the points of a function
 abbrev FunctionParts : Function → Type 0
@@ -44,13 +44,13 @@ FunctionParts f = OperandFits f.argument × ((1 ≤ length f.points) × (length 
 function_parts : (f : Function) → FunctionFits f × PointsAscend f → FunctionParts f
 function_parts f h = (
   h.0.argument,
-  (h.0.least, h.0.most, ascending_fit int_order point_of x_and_y (signed w64) (signed w64) f.points [] (λ k d lt. (h.0.each k d lt).x) (λ k d lt. (h.0.each k d lt).y) h.1),
+  (h.0.least, h.0.most, ascending_fit int_order point_of x_and_y (signed_number w64) (signed_number w64) f.points [] (λ k d lt. (h.0.each k d lt).x) (λ k d lt. (h.0.each k d lt).y) h.1),
 )
 
 function_keeps : (f : Function) → FunctionParts f → FunctionFits f × PointsAscend f
 function_keeps f (argument, points) = (
   record { argument = argument; least = points.0; most = points.1; each = All-from_fit point.Fits PointFits (λ front left p fit. record { x = fit.0.0; y = fit.1 }) f.points [] points.2 },
-  ascends int_order point_of x_and_y (signed w64) (signed w64) f.points [] (λ i j d lt in_none. absurd (omega arith)) points.2,
+  ascends int_order point_of x_and_y (signed_number w64) (signed_number w64) f.points [] (λ i j d lt in_none. absurd (omega arith)) points.2,
 )
 
 pub function_exact : IsExact function

@@ -11,7 +11,7 @@ use Rattle.gw_object.specs.Codes as codes
 use Rattle.gw_object.specs.Limits.{most_bytes, most_seeds, greatest_seed, greatest_count, most_entities, most_procedures, most_blocks}
 use Rattle.gw_object.specs.declared.parts.Parts.{Parts}
 use Rattle.gw_fields.specs.declared.error.Bad.{Bad}
-use Rattle.gw_fields.specs.Fields.{IsProperFront, bad, number, tested, count, plain, ElementsFit}
+use Rattle.gw_fields.specs.Fields.{IsProperFront, bad, number, field_with_test, count, plain, ElementsFit}
 use Rattle.gw_object.specs.Grammar.{weight, rows, IsSlopeOfVersion, CertificateFits, chain_certificate, tables, is_version, version_number, head, seed, start_count, object, spelling, IsWithinLimits, HasSpelling, Spells}
 use Rattle.gw_blocks.specs.declared.parts.Block.{Block}
 use Rattle.gw_blocks.specs.Grammar.{IsOfVersion, BlockFits, block}
@@ -44,7 +44,7 @@ version_is_short : (n : ℕ) → IsTrue (is_version n) → n < 256 ^ 2
 version_is_short n h = grind (arith, nat_tests)
 
 version_number_exact : IsExact version_number
-version_number_exact = fitting_exact (λ n. IsTrue (is_version n)) (tested is_version codes.version (number w16)) (λ n h. h.1) (λ n h. (version_is_short n h, h)) (tested_exact is_version codes.version (number w16) (number_exact w16 wide16))
+version_number_exact = fitting_exact (λ n. IsTrue (is_version n)) (field_with_test is_version codes.version (number w16)) (λ n h. h.1) (λ n h. (version_is_short n h, h)) (tested_exact is_version codes.version (number w16) (number_exact w16 wide16))
 
 pub head_exact : IsExact head
 unfolding head
@@ -190,14 +190,14 @@ fits_spelled p (head, (seeds, (count, (entities, (procedures, (blocks, (returns,
 whole_takes : (bytes : List ℕ) (p : Parts) → IsBytes bytes → whole_read bytes ≡ Ok p → object.Fits p × (bytes ≡ spelling p)
 unfolding whole_read spelling
 whole_takes bytes p fits e =
-    let a = bind_ok (object.read bytes) (λ p. cond (eqb (length p.1) 0) (Ok p.0) (Err (bad codes.trailing p.1))) p e in
+    let a = bind_ok (object.read bytes) (λ p. cond (eqb (length p.1) 0) (Ok p.0) (Err (bad codes.trailing_bytes p.1))) p e in
     let taken = object_exact.takes bytes a.0 fits a.1 in
-    elim (chosen (eqb (length a.0.1) 0) (Ok a.0.0) (Err (bad codes.trailing a.0.1)) (Ok p) a.2) [
+    elim (chosen (eqb (length a.0.1) 0) (Ok a.0.0) (Err (bad codes.trailing_bytes a.0.1)) (Ok p) a.2) [
       | inl done ↦
           let nothing : a.0.1 ≡ [] = nil_from_length a.0.1 (eqb-true _ _ done.0) in
           let whole : bytes ≡ object.spell a.0.0 = taken.0.parts ∙ ap (λ (r : List ℕ). object.spell a.0.0 ++ r) nothing ∙ append-nil (object.spell a.0.0) in
           subst (λ (q : Parts). object.Fits q × (bytes ≡ object.spell q)) (ok_is a.0.0 p done.1) (taken.1, whole)
-      | inr more ↦ not_both p (bad codes.trailing a.0.1) (sym more.1)
+      | inr more ↦ not_both p (bad codes.trailing_bytes a.0.1) (sym more.1)
     ]
 
 whole_again : (p : Parts) → object.Fits p → whole_read (spelling p) ≡ Ok p
@@ -210,13 +210,13 @@ whole_again p fits =
 pub whole_within : (bytes : List ℕ) (e : Bad) → IsBytes bytes → whole_read bytes ≡ Err e → e.left ≤ length bytes
 unfolding whole_read
 whole_within bytes e fits h =
-    elim (bind_err (object.read bytes) (λ p. cond (eqb (length p.1) 0) (Ok p.0) (Err (bad codes.trailing p.1))) e h) [
+    elim (bind_err (object.read bytes) (λ p. cond (eqb (length p.1) 0) (Ok p.0) (Err (bad codes.trailing_bytes p.1))) e h) [
       | inl first ↦ object_exact.within bytes e fits first
       | inr a ↦
           let taken = object_exact.takes bytes a.0 fits a.1 in
-          elim (chosen (eqb (length a.0.1) 0) (Ok a.0.0) (Err (bad codes.trailing a.0.1)) (Err e) a.2) [
+          elim (chosen (eqb (length a.0.1) 0) (Ok a.0.0) (Err (bad codes.trailing_bytes a.0.1)) (Err e) a.2) [
             | inl done ↦ not_both a.0.0 e done.1
-            | inr more ↦ rw (← err_is (bad codes.trailing a.0.1) e more.1) (Takes-shorter bytes (object.spell a.0.0) a.0.1 taken.0)
+            | inr more ↦ rw (← err_is (bad codes.trailing_bytes a.0.1) e more.1) (Takes-shorter bytes (object.spell a.0.0) a.0.1 taken.0)
           ]
     ]
 
@@ -274,20 +274,20 @@ apart p q a b x y one two e =
 -- bytes that lack some of a spelling
 whole_cut : (p : Parts) → object.Fits p → CutsFronts whole_read (spelling p)
 unfolding whole_read spelling
-whole_cut p fits = cuts_still object.read (λ bytes p. cond (eqb (length p.1) 0) (Ok p.0) (Err (bad codes.trailing p.1))) (object.spell p) (object_exact.cut p fits)
+whole_cut p fits = cuts_still object.read (λ bytes p. cond (eqb (length p.1) 0) (Ok p.0) (Err (bad codes.trailing_bytes p.1))) (object.spell p) (object_exact.cut p fits)
 
-cut_placed : (total : ℕ) (r : Result Parts Bad) → IsCut r → (at : ℕ) × (at ≤ total) × (with_place total r ≡ Err (fault_at codes.truncated at))
+cut_placed : (total : ℕ) (r : Result Parts Bad) → IsCut r → (at : ℕ) × (at ≤ total) × (with_place total r ≡ Err (fault_at codes.truncation at))
 cut_placed total (Ok p) h = absurd h
 cut_placed total (Err e) h = (total - e.left, omega arith, rw h refl)
 
-pub front_refused : (p : Parts) (front : List ℕ) → HasSpelling p → IsProperFront front (spelling p) → IsRefused codes.truncated front
+pub front_refused : (p : Parts) (front : List ℕ) → HasSpelling p → IsProperFront front (spelling p) → IsRefused codes.truncation front
 unfolding first_fault
 front_refused p front fits begins =
     let short : ltb most_bytes (length front) ≡ false = le-ltb _ _ (omega (arith, front_shorter (spelling p) front begins, fits.limits.size)) in
     rw short (cut_placed (length front) (whole_read front) (whole_cut p (spelled_fits p fits) front begins))
 
 -- bytes behind a spelling
-pub more_refused : (p : Parts) (more : List ℕ) → HasSpelling p → more ≢ [] → length (spelling p ++ more) ≤ most_bytes → first_fault (spelling p ++ more) ≡ Err (fault_at codes.trailing (length (spelling p)))
+pub more_refused : (p : Parts) (more : List ℕ) → HasSpelling p → more ≢ [] → length (spelling p ++ more) ≤ most_bytes → first_fault (spelling p ++ more) ≡ Err (fault_at codes.trailing_bytes (length (spelling p)))
 unfolding first_fault whole_read spelling
 more_refused p more fits some size =
     let short : ltb most_bytes (length (spelling p ++ more)) ≡ false = le-ltb _ _ size in

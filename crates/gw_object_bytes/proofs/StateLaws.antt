@@ -11,8 +11,8 @@ use Rattle.gw_object.specs.declared.parts.TableKind.TheVariants.{Num, Ret}
 use Rattle.gw_object.specs.declared.parts.TableParameter.{TableParameter}
 use Rattle.gw_object.specs.declared.parts.TableState.{TableState}
 use Rattle.gw_object.specs.declared.parts.ReturnRow.{ReturnRow}
-use Rattle.gw_fields.specs.Fields.{Field, number, ranged, nothing, optional, plain, listed, ElementsFit}
-use Rattle.gw_object.specs.Grammar.{row_number, returned, ReturnRowFits, AreAscending, return_row, TableKindFits, table_kind_spelling, table_kind_forms, table_kind_read, table_kind, ParameterFits, parameter, owned, held, HeldFits, StateFits, IsAscending, state}
+use Rattle.gw_fields.specs.Fields.{Field, number, number_between, nothing, optional, plain, list_of, ElementsFit}
+use Rattle.gw_object.specs.Grammar.{row_number, return_block, ReturnRowFits, AreAscending, return_row, TableKindFits, table_kind_spelling, table_kind_forms, table_kind_read, table_kind, ParameterFits, parameter, owned_facility, held_units, HeldFits, StateFits, IsAscending, state}
 use Rattle.gw_blocks.specs.Grammar.{entity_number, block_number, parameter_number}
 use Rattle.gw_block_bytes.proofs.BlockLaws.{entity_number_exact, block_number_exact, parameter_number_exact}
 use Rattle.gw_field_bytes.proofs.AboveLast.{above_last_exact, above_last_fit, above_last_ascends}
@@ -52,19 +52,19 @@ abbrev entity_and_number : Units → ℕ × ℕ
 entity_and_number u = (u.entity, u.number)
 
 abbrev held_number : Field ℕ
-held_number = ranged 1 greatest_units (number w32)
+held_number = number_between 1 greatest_units (number w32)
 
 parameter_exact : IsExactElement parameter
 parameter_exact = ascending_exact nat_lt parameter_of number_and_kind parameter_number table_kind (λ x. refl) (λ p. refl) parameter_number_exact table_kind_exact
 
-held_exact : IsExactElement held
+held_exact : IsExactElement held_units
 held_exact = ascending_exact nat_lt units_of entity_and_number entity_number held_number (λ x. refl) (λ u. refl) entity_number_exact (ranged_exact 1 greatest_units (number w32) (λ n h. omega arith) (number_exact w32 wide32))
 
 -- the lists of a state
 abbrev StateLists : TableState → Type 0
 StateLists s =
     ((0 ≤ length s.parameters) × (length s.parameters ≤ most_parameters) × ElementsFit parameter.Fits [] s.parameters)
-    × (((0 ≤ length s.facilities) × (length s.facilities ≤ most_entities) × ElementsFit owned.Fits [] s.facilities) × ((0 ≤ length s.units) × (length s.units ≤ most_entities) × ElementsFit held.Fits [] s.units))
+    × (((0 ≤ length s.facilities) × (length s.facilities ≤ most_entities) × ElementsFit owned_facility.Fits [] s.facilities) × ((0 ≤ length s.units) × (length s.units ≤ most_entities) × ElementsFit held_units.Fits [] s.units))
 
 state_lists : (s : TableState) → StateFits s × IsAscending s → StateLists s
 state_lists s h = (
@@ -81,9 +81,9 @@ state_keeps s (parameters, (facilities, units)) = (
     parameters = parameters.1;
     each_parameter = All-from_fit parameter.Fits ParameterFits (λ front left p fit. record { number = fit.0.0; kind = fit.1 }) s.parameters [] parameters.2;
     facilities = facilities.1;
-    each_facility = All-from_fit owned.Fits entity_number.Fits (λ front left x fit. fit.0.0) s.facilities [] facilities.2;
+    each_facility = All-from_fit owned_facility.Fits entity_number.Fits (λ front left x fit. fit.0.0) s.facilities [] facilities.2;
     units = units.1;
-    each_unit = All-from_fit held.Fits HeldFits (λ front left u fit. record { entity = fit.0.0; least = fit.1.0; most = fit.1.1 }) s.units [] units.2;
+    each_unit = All-from_fit held_units.Fits HeldFits (λ front left u fit. record { entity = fit.0.0; least = fit.1.0; most = fit.1.1 }) s.units [] units.2;
   },
   record {
     parameters = ascends nat_order parameter_of number_and_kind parameter_number table_kind s.parameters [] (λ i j d lt in_none. absurd (omega arith)) parameters.2;
@@ -95,29 +95,29 @@ state_keeps s (parameters, (facilities, units)) = (
 pub state_exact : IsExact state
 unfolding state
 state_exact = fitting_exact (λ s. StateFits s × IsAscending s) _ state_keeps state_lists
-    (made_exact _ _ _ (λ x h. refl) (λ s h. refl) (both_exact _ _ (listed_exact 0 most_parameters parameter (omega arith) parameter_exact) (both_exact _ _ (listed_exact 0 most_entities owned (omega arith) (above_last_exact entity_number entity_number_exact)) (listed_exact 0 most_entities held (omega arith) held_exact))))
+    (made_exact _ _ _ (λ x h. refl) (λ s h. refl) (both_exact _ _ (listed_exact 0 most_parameters parameter (omega arith) parameter_exact) (both_exact _ _ (listed_exact 0 most_entities owned_facility (omega arith) (above_last_exact entity_number entity_number_exact)) (listed_exact 0 most_entities held_units (omega arith) held_exact))))
 
 -- ---- return rows
 
 -- the blocks of a return row
 abbrev RowBlocks : ReturnRow → Type 0
-RowBlocks row = (1 ≤ length row.blocks) × (length row.blocks ≤ most_blocks) × ElementsFit returned.Fits [] row.blocks
+RowBlocks row = (1 ≤ length row.blocks) × (length row.blocks ≤ most_blocks) × ElementsFit return_block.Fits [] row.blocks
 
 row_blocks : (row : ReturnRow) → ReturnRowFits row × AreAscending row → RowBlocks row
 row_blocks row h = (h.0.least, h.0.most, above_last_fit block_number row.blocks h.0.each h.1)
 
 row_keeps : (row : ReturnRow) → RowBlocks row → ReturnRowFits row × AreAscending row
 row_keeps row blocks = (
-  record { least = blocks.0; most = blocks.1; each = All-from_fit returned.Fits block_number.Fits (λ front left x fit. fit.0.0) row.blocks [] blocks.2 },
+  record { least = blocks.0; most = blocks.1; each = All-from_fit return_block.Fits block_number.Fits (λ front left x fit. fit.0.0) row.blocks [] blocks.2 },
   above_last_ascends block_number row.blocks blocks.2,
 )
 
 return_row_exact : IsExact return_row
 unfolding return_row
 return_row_exact = fitting_exact (λ row. ReturnRowFits row × AreAscending row) _ row_keeps row_blocks
-    (made_exact _ _ _ (λ x h. refl) (λ row h. refl) (listed_exact 1 most_blocks returned (omega arith) (above_last_exact block_number block_number_exact)))
+    (made_exact _ _ _ (λ x h. refl) (λ row h. refl) (listed_exact 1 most_blocks return_block (omega arith) (above_last_exact block_number block_number_exact)))
 
-pub return_rows_exact : IsExact (listed 0 most_return_rows (plain return_row))
+pub return_rows_exact : IsExact (list_of 0 most_return_rows (plain return_row))
 return_rows_exact = listed_exact 0 most_return_rows (plain return_row) (omega arith) (plain_exact return_row return_row_exact)
 
 pub return_rows_fit : (rows : List ReturnRow) → All ReturnRowFits rows → All AreAscending rows → ElementsFit (plain return_row).Fits [] rows

@@ -1,7 +1,7 @@
 -- Keys that ascend in lists of an object.
 use Rattle.std.specs.Prelude.{ℕ, ℤ, Option, nat_lt, int_lt}
 use Rattle.std.specs.Int.{w64}
-use Rattle.gw_fields.specs.Fields.{Field, key_above, signed}
+use Rattle.gw_fields.specs.Fields.{Field, key_above, signed_number}
 use Rattle.gw_blocks.specs.Grammar.{entity_number}
 
 -- an entity's number that is above the one before it, if there is one
@@ -10,4 +10,4 @@ entity_above before = key_above nat_lt before entity_number
 
 -- the argument of a point that is above that of the point before it, if there is one
 abbrev pub argument_above : Option ℤ → Field ℤ
-argument_above before = key_above int_lt before (signed w64)
+argument_above before = key_above int_lt before (signed_number w64)

@@ -2,7 +2,7 @@
 use Rattle.std.specs.Prelude.{◌≡◌, ◌≢◌, ◌⊎◌, ℕ, ◌<◌, ◌≤◌, List, [], ◌++◌, length, Result, Ok, Err}
 use Rattle.std.specs.List.{All}
 use Rattle.gw_fields.specs.Fields.{IsProperFront}
-use Rattle.gw_object.specs.Codes.{truncated, trailing}
+use Rattle.gw_object.specs.Codes.{truncation, trailing_bytes}
 use Rattle.gw_object.specs.Limits.{most_bytes}
 use Rattle.gw_object.specs.declared.fault.Fault.{Fault}
 use Rattle.gw_object.specs.declared.fault.Place.TheVariants.{Nowhere}
@@ -28,8 +28,8 @@ ReadingIsSpelled = (bytes : List ℕ) (p : Parts) → All (λ byte. byte < 256) 
 
 -- a spelling cut short is refused as truncated
 abbrev pub FrontsAreTruncated : Type 0
-FrontsAreTruncated = (p : Parts) (front : List ℕ) → HasSpelling p → IsProperFront front (spelling p) → IsRefused truncated front
+FrontsAreTruncated = (p : Parts) (front : List ℕ) → HasSpelling p → IsProperFront front (spelling p) → IsRefused truncation front
 
 -- a spelling with more behind it is refused as trailing at the first byte of that, where there aren't too many bytes in all
 abbrev pub MoreIsTrailing : Type 0
-MoreIsTrailing = (p : Parts) (more : List ℕ) → HasSpelling p → more ≢ [] → length (spelling p ++ more) ≤ most_bytes → first_fault (spelling p ++ more) ≡ Err (fault_at trailing (length (spelling p)))
+MoreIsTrailing = (p : Parts) (more : List ℕ) → HasSpelling p → more ≢ [] → length (spelling p ++ more) ≤ most_bytes → first_fault (spelling p ++ more) ≡ Err (fault_at trailing_bytes (length (spelling p)))

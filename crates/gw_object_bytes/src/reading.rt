@@ -5,7 +5,7 @@ ghost use Rattle.gw_object.specs.declared.parts.Parts.{Parts};
 ghost use Rattle.gw_object.specs.Grammar.{head, tables, object, Spells};
 ghost use Rattle.gw_fields.specs.Answers.{Gives};
 ghost use Rattle.gw_object.specs.Limits.{most_bytes};
-ghost use Rattle.gw_object.specs.Reading.{whole_read, placed, too_long, first_fault};
+ghost use Rattle.gw_object.specs.Reading.{whole_read, fault_of_bad, too_long, first_fault};
 ghost use Rattle.gw_object_bytes.specs.Laws.{AnswersUnlessMemory};
 
 use crate::ObjectFormat;
@@ -140,7 +140,7 @@ fn read_whole(alloc: Global, bytes: &[u8]) -> Result<Parts, ReadError>
 fn placed_fault(total: usize, fault: Bad) -> Fault
     requires within { fault.left ≤ total }
     requires short { total < 2 ^ 32 }
-    ensures { result ≡ placed total fault }
+    ensures { result ≡ fault_of_bad total fault }
 {
     Fault {
         code: fault.code,

@@ -3,7 +3,7 @@
 ghost use Rattle.std.specs.Prelude.{◌≡◌, ◌↔◌, ◌<◌, IsTrue, IfSome};
 ghost use Rattle.std.specs.List.{All, AllPairs};
 ghost use Rattle.gw_object.specs.Grammar.{table_kind, TableKindFits, ParameterFits, parameter};
-ghost use Rattle.gw_object.specs.Grammar.{owned, held, HeldFits, StateFits, IsAscending, state};
+ghost use Rattle.gw_object.specs.Grammar.{owned_facility, held_units, HeldFits, StateFits, IsAscending, state};
 ghost use Rattle.gw_fields.specs.Answers.{Gives};
 ghost use Rattle.gw_object_bytes.specs.Keys.{entity_above};
 ghost use Rattle.gw_blocks.specs.declared.parts.Units.{Units};
@@ -88,7 +88,7 @@ pub struct AscendingNumbers;
 impl Elements for AscendingNumbers {
     type Item = u16;
 
-    ghost reading = { owned.read };
+    ghost reading = { owned_facility.read };
 
     fn read<'a>(alloc: Global, front: Front<Self>, _: usize, bytes: &'a [u8]) -> Reading<'a, Self> {
         read_above(alloc, front.last().copied(), bytes)
@@ -101,7 +101,7 @@ struct Held;
 impl Elements for Held {
     type Item = Units;
 
-    ghost reading = { held.read };
+    ghost reading = { held_units.read };
 
     fn read<'a>(alloc: Global, front: Front<Self>, _: usize, bytes: &'a [u8]) -> Reading<'a, Self> {
         let before = front.last().map(|units| units.entity);

@@ -123,7 +123,7 @@ pub fn values(block: &Block) -> Operands
 /// The operands that are evaluated when a transaction enters a block, in order: its `values`, and at a TABULATE the
 /// argument of its table (GPSS World Reference Manual, chapter 7).
 pub fn evaluated(entities: &[Entity], block: &Block) -> Operands
-    ensures { result ≡ model.evaluated entities.now block.now }
+    ensures { result ≡ model.evaluation_operands entities.now block.now }
 {
     match block {
         Block::Tabulate(table) => Operands::of_option(operand_at(entities, *table)),

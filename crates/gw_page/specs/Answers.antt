@@ -1,6 +1,6 @@
 -- What an inquiry about a text is answered.
 use Rattle.std.specs.Prelude.{◌≡◌, ◌≢◌, ◌⊎◌, ℕ, List, is_some, true, false, if◌then◌else◌}
-use Rattle.gw_answers.specs.Status.{ended}
+use Rattle.gw_answers.specs.Status.{end_status}
 use Rattle.gw_answers.specs.Requests.{Answering}
 use Rattle.gw_explain.specs.Explanation.{IsExplained}
 use Rattle.gw_explain.specs.Meaning.{meaning}
@@ -8,7 +8,7 @@ use Rattle.gw_command_line.specs.Options.{Choices}
 use Rattle.gw_command_line.specs.Words.{Act, Ask, Charts, Code, Help, Version, Studies, Compares, Rows, Sums, Object, Shares}
 use Rattle.gw_command_line.specs.declared.words.Question.{Question}
 use Rattle.gw_command_line.specs.declared.words.Question.TheVariants.{Points, Trace}
-use Rattle.gw_planner.specs.Answers.{asked, charted, studied, rows_asked}
+use Rattle.gw_planner.specs.Answers.{question_answering, chart_answering, study_answering, rows_asked}
 use Rattle.gw_page.specs.Limits.{Costs}
 use Rattle.gw_page.specs.declared.reply.Kind.{Kind}
 use Rattle.gw_page.specs.declared.reply.Kind.TheVariants.{Plain, Csv, Svg}
@@ -18,13 +18,13 @@ use Rattle.gw_page.specs.declared.reply.Reply.{Reply}
 use Rattle.gw_page.specs.declared.texts.TheConstants.{NO_MEMORY, TOO_FAR, TOO_LONG, TOO_MANY, UNCOUNTED}
 
 -- what the program `planner` answers a command about a text
-abbrev pub answered : Act → Answering
-answered (Ask question) text told status = asked question text told status
-answered (Charts span name) text told status = charted span name text told status
-answered (Code code) text told status = (told ≡ meaning code) × (status ≡ ended)
-answered (Studies d) text told status = studied false d text told status
-answered (Rows d) text told status = rows_asked d text told status
-answered _ text told status = ⊥
+abbrev pub act_answering : Act → Answering
+act_answering (Ask question) text told status = question_answering question text told status
+act_answering (Charts span name) text told status = chart_answering span name text told status
+act_answering (Code code) text told status = (told ≡ meaning code) × (status ≡ end_status)
+act_answering (Studies d) text told status = study_answering false d text told status
+act_answering (Rows d) text told status = rows_asked d text told status
+act_answering _ text told status = ⊥
 
 -- what kind of text a study is
 abbrev pub kind_of_study : Choices → Kind
@@ -62,14 +62,14 @@ pub record IsSaid (outcome : Outcome) (kind : Kind) (text : List ℕ) (reply : R
 -- the explanation of a text that is refused; of one that isn't, the refusal of what is asked
 abbrev pub TellsRefusal : List ℕ → List ℕ → List ℕ → Type 0
 TellsRefusal text own told =
-    ((status : ℕ) × (status ≢ ended) × IsExplained text told status)
-    ⊎ ((told ≡ own) × ((other : List ℕ) × IsExplained text other ended))
+    ((status : ℕ) × (status ≢ end_status) × IsExplained text told status)
+    ⊎ ((told ≡ own) × ((other : List ℕ) × IsExplained text other end_status))
 
 -- 200: what was counted beforehand, and found within the limits, has the answer
 pub record IsAnswered (act : Act) (text : List ℕ) (reply : Reply) : Type 0 where
   pub outcome : reply.outcome ≡ Answered
   pub kind : reply.kind ≡ kind_of act
-  pub answer : answered act text reply.text.items ended
+  pub answer : act_answering act text reply.text.items end_status
   pub within : Costs act text true
 
 -- 422: what is asked is refused
@@ -78,8 +78,8 @@ pub record IsRefused (act : Act) (text : List ℕ) (reply : Reply) : Type 0 wher
   pub kind : reply.kind ≡ Plain
   pub own : List ℕ
   pub status : ℕ
-  pub refused : status ≢ ended
-  pub answer : answered act text own status
+  pub refused : status ≢ end_status
+  pub answer : act_answering act text own status
   pub told : TellsRefusal text own reply.text.items
 
 -- 503: it costs more than it may, or its cost couldn't be counted

@@ -19,18 +19,18 @@ abbrev pub by_one_worker : Choices → Choices
 by_one_worker o = record o { workers = Some 1 }
 
 -- what the page makes of a command: those that make many runs do so by one worker; it offers no other than these
-abbrev pub offered : Act → Option Act
-offered (Ask question) = Some (Ask question)
-offered (Charts span name) = Some (Charts span name)
-offered (Code code) = Some (Code code)
-offered (Studies d) = Some (Studies (record d { options = by_one_worker d.options }))
-offered (Rows d) = Some (Rows (record d { options = by_one_worker d.options }))
-offered (Compares d) = None
-offered (Sums summing) = None
-offered (Object d) = None
-offered (Shares shard) = None
-offered Help = None
-offered Version = None
+abbrev pub offered_act : Act → Option Act
+offered_act (Ask question) = Some (Ask question)
+offered_act (Charts span name) = Some (Charts span name)
+offered_act (Code code) = Some (Code code)
+offered_act (Studies d) = Some (Studies (record d { options = by_one_worker d.options }))
+offered_act (Rows d) = Some (Rows (record d { options = by_one_worker d.options }))
+offered_act (Compares d) = None
+offered_act (Sums summing) = None
+offered_act (Object d) = None
+offered_act (Shares shard) = None
+offered_act Help = None
+offered_act Version = None
 
 -- its runs have seeds of their own
 abbrev pub MayBeAsked : Inquiry → Type 0

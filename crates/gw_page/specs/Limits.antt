@@ -2,7 +2,7 @@
 use Rattle.std.specs.Prelude.{◌≡◌, ◌⊎◌, ℕ, ◌<◌, ◌≤◌, ◌+◌, ◌-◌, ◌*◌, ◌/◌, ◌^◌, min, max, List, length, All, Any, ℤ, pos, Bool, true, false, Ok}
 use Rattle.std.specs.Option.{unwrap_or}
 use Rattle.gw_step.specs.Job.{Job}
-use Rattle.gw_answers.specs.Status.{ended}
+use Rattle.gw_answers.specs.Status.{end_status}
 use Rattle.gw_answers.specs.Answer.{job_of}
 use Rattle.gw_answers.specs.Assembly.{IsAssembly}
 use Rattle.gw_model_jobs.specs.ModelJobs.{IsJobOf}
@@ -38,7 +38,7 @@ IsOfObject object seed count within = (j : Job) × (job_of seed count object ≡
 
 -- whether that of a model text with these is
 abbrev pub IsOfReport : List ℕ → ℕ → ℕ → Bool → Type 0
-IsOfReport text seed count within = (object : List ℕ) × IsAssembly text object ended × IsOfObject object seed count within
+IsOfReport text seed count within = (object : List ℕ) × IsAssembly text object end_status × IsOfObject object seed count within
 
 -- whether a run of this number of a job's object has no more than so many steps and figures
 abbrev pub IsShare : ℕ → ℕ → ℕ → Job → Bool → Type 0

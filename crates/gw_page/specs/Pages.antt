@@ -7,7 +7,7 @@ use Rattle.http_uri.specs.Uri.{uri_path, uri_query}
 use Rattle.http_server.specs.declared.response.Response.{Response}
 use Rattle.gw_command_line.specs.Words.{Act, command_in}
 use Rattle.gw_page.specs.Words.{words_in}
-use Rattle.gw_page.specs.Inquiries.{offered}
+use Rattle.gw_page.specs.Inquiries.{offered_act}
 use Rattle.gw_page.specs.Replies.{IsSent}
 use Rattle.gw_page.specs.Answers.{IsSaid, IsReplyTo as IsReplyToInquiry}
 use Rattle.gw_page.specs.declared.html.TheConstants.{PAGE}
@@ -37,7 +37,7 @@ IsReplyToAct (Some act) text reply = IsReplyToInquiry act text reply
 
 -- the reply to words about a text
 abbrev pub IsReplyToWords : List (List ℕ) → List ℕ → Reply → Type 0
-IsReplyToWords words text reply = IsReplyToAct (option_and_then offered (command_in words)) text reply
+IsReplyToWords words text reply = IsReplyToAct (option_and_then offered_act (command_in words)) text reply
 
 -- a method gets
 abbrev pub gets : List ℕ → Bool

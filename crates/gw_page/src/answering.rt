@@ -4,7 +4,7 @@ ghost use Rattle.std.specs.Prelude.{◌≡◌, IfOk};
 ghost use Rattle.gw_command_line.specs.Options.{view};
 ghost use Rattle.gw_page.specs.Inquiries.{act_asked, MayBeAsked};
 ghost use Rattle.gw_page.specs.Answers as model;
-ghost use Rattle.gw_page.specs.Answers.{answered, TellsRefusal, IsSaid, IsReplyTo};
+ghost use Rattle.gw_page.specs.Answers.{act_answering, TellsRefusal, IsSaid, IsReplyTo};
 ghost use Rattle.gw_page.specs.Limits.{IsAllowance};
 
 use crate::inquiry::Inquiry;
@@ -30,7 +30,7 @@ fn answer_of<T: Threads + Wait + Sync + Eprint>(
     text: &[u8],
 ) -> Result<Answer, Memory>
     requires { MayBeAsked inquiry.now }
-    ensures { IfOk result (λ a. answered (act_asked inquiry.now) text.now a.text.items a.status) }
+    ensures { IfOk result (λ a. act_answering (act_asked inquiry.now) text.now a.text.items a.status) }
 {
     match inquiry {
         Inquiry::Question(question) => answer(alloc, *question, text),
@@ -124,7 +124,7 @@ fn reply_by(
     answer: Answer,
     allowance: Allowance,
 ) -> Result<Reply, Memory>
-    requires answer { answered (act_asked inquiry.now) text.now answer.text.items answer.status }
+    requires answer { act_answering (act_asked inquiry.now) text.now answer.text.items answer.status }
     requires allowed { IsAllowance (act_asked inquiry.now) text.now allowance }
     ensures { IfOk result (IsReplyTo (act_asked inquiry.now) text.now) }
 {

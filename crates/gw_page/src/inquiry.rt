@@ -4,7 +4,7 @@ ghost use Rattle.std.specs.Prelude.{◌≡◌, option_map, IfSome};
 ghost use Rattle.gw_command_line.specs.Asking.{MayBeCarriedOut};
 ghost use Rattle.gw_command_line.specs.Options.{view};
 ghost use Rattle.gw_command_line.specs.Words.{act_of};
-ghost use Rattle.gw_page.specs.Inquiries.{act_asked, by_one_worker, offered, MayBeAsked};
+ghost use Rattle.gw_page.specs.Inquiries.{act_asked, by_one_worker, offered_act, MayBeAsked};
 
 use gw_command_line::{Chart, Command, Options, Question, Runs, Study};
 
@@ -35,7 +35,7 @@ fn with_one_worker(options: Options<'_>) -> Options<'_>
 /// What a command asks of a model, by one worker, if the page offers it.
 pub(crate) fn inquiry_of(command: Command<'_>) -> Option<Inquiry<'_>>
     requires { MayBeCarriedOut command }
-    ensures asked { option_map act_asked result ≡ offered (act_of command.entry) }
+    ensures asked { option_map act_asked result ≡ offered_act (act_of command.entry) }
     ensures fit { IfSome result MayBeAsked }
 {
     match command {

@@ -10,11 +10,11 @@ use Rattle.gw_text.specs.declared.model.Statement.{Statement}
 use Rattle.gw_compile.specs.declared.numbering.Callee.{Callee}
 use Rattle.gw_compile.specs.declared.numbering.Equ.{Equ}
 use Rattle.gw_compile.specs.declared.numbering.Equ.TheVariants.{Number, Procedure}
-use Rattle.gw_names.specs.Places.{is_equ, label_of, named, last_of, equ_number_of}
+use Rattle.gw_names.specs.Places.{is_equ, label_of, name_entry, last_of, equ_number_of}
 use Rattle.gw_names.proofs.Declaring.{last_append, comes}
 use Rattle.gw_pieces.proofs.Walks.{split_at}
 use Rattle.gw_pieces.specs.declared.origins.Origin.{Origin}
-use Rattle.gw_pieces.specs.Naming.{number_at, entries_from, callee_of_body, callee_of_statement, callee_of_origin, callee_of, equ_of_body, equ_of_statement, equ_of_origin, numbered, equ_of_number, equ_meant, StandsAt, IsCallee, IsMeant}
+use Rattle.gw_pieces.specs.Naming.{number_at, entries_from, callee_of_body, callee_of_statement, callee_of_origin, callee_of, equ_of_body, equ_of_statement, equ_of_origin, equ_by_number, equ_of_number, equ_meant, StandsAt, IsCallee, IsMeant}
 
 -- what the next one gives comes
 pub entries_step : {A X : Type 0} (entry : A → ℕ → List (List ℕ × X)) (xs : List A) (i : ℕ) (x : A) (name : List ℕ) (before after total : Option X) → slice_get xs i ≡ Some x
@@ -75,7 +75,7 @@ module _ (ss : List Statement) (order : List Origin) where
   pub callee_is : (name : List ℕ) (c : Callee) → callee_of ss order name ≡ Some c → IsCallee ss order name c
   callee_is name c h = found_among (callee_of_origin ss) (IsCallee ss order) name c 0 order h (λ j o at is. of_origin name c j o at (slice_get ss o.statement) refl (subst (λ k. last_of (callee_of_origin ss o k) name ≡ Some c) (none_before j) is))
 
-  by_label : (name : List ℕ) (q : ℕ) (e : Equ) (label : Option (List ℕ)) → last_of (named label (Procedure q)) name ≡ Some e → (label ≡ Some name) × (Procedure q ≡ e)
+  by_label : (name : List ℕ) (q : ℕ) (e : Equ) (label : Option (List ℕ)) → last_of (name_entry label (Procedure q)) name ≡ Some e → (label ≡ Some name) × (Procedure q ≡ e)
   by_label name q e None h = absurd cc
   by_label name q e (Some own) h = let x = single name own (Procedure q) e h in (ap Some x.0, x.1)
 
@@ -92,13 +92,13 @@ module _ (ss : List Statement) (order : List Origin) where
   equ_in_origin name e place o at None is h = absurd cc
   equ_in_origin name e place o at (Some s) is h = equ_in_body name e place s s.body refl (record { origin = o; there = at; statement = is }) h
 
-  number_by : (name own : List ℕ) (z : Option ℤ) (e : Equ) → equ_number_of ss own ≡ z → last_of (numbered (Some own) z) name ≡ Some e → IsMeant ss order name e
+  number_by : (name own : List ℕ) (z : Option ℤ) (e : Equ) → equ_number_of ss own ≡ z → last_of (equ_by_number (Some own) z) name ≡ Some e → IsMeant ss order name e
   number_by name own None e is h = absurd cc
   number_by name own (Some z) e is h =
       let x = single name own (Number z) e h in
       subst (IsMeant ss order name) x.1 (subst (λ y. equ_number_of ss y ≡ Some z) x.0 is)
 
-  number_in : (name : List ℕ) (e : Equ) (label : Option (List ℕ)) → last_of (numbered label (option_and_then (equ_number_of ss) label)) name ≡ Some e → IsMeant ss order name e
+  number_in : (name : List ℕ) (e : Equ) (label : Option (List ℕ)) → last_of (equ_by_number label (option_and_then (equ_number_of ss) label)) name ≡ Some e → IsMeant ss order name e
   number_in name e None h = absurd cc
   number_in name e (Some own) h = number_by name own (equ_number_of ss own) e refl h
 

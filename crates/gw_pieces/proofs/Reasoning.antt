@@ -11,7 +11,7 @@ use Rattle.gw_names.specs.declared.sights.Sighted.{Sighted}
 use Rattle.gw_names.specs.Codes.{name_fault, limit_fault}
 use Rattle.gw_names.specs.Known.{Key, is_same}
 use Rattle.gw_names.specs.Ledger.{noted_at}
-use Rattle.gw_names.specs.Places.{last_by, named, places_from, declared_entity, declaration_of}
+use Rattle.gw_names.specs.Places.{last_by, name_entry, places_from, declared_entity, declaration_of}
 use Rattle.gw_names.specs.Sights.{entities_of}
 use Rattle.gw_names.proofs.Declaring.{last_append}
 use Rattle.gw_blocks.specs.declared.parts.Numbered.{Numbered}
@@ -117,17 +117,17 @@ astray_origin n ss o none = inr (record { place = o.statement; needed = refl; mi
 -- what was declared last has a place among the statements
 within : {K : Type 0} (declared : Statement → Option K) (test : K → Bool) (i j : ℕ) (ss : List Statement) → last_by test (places_from declared j ss) ≡ Some i → i < j + length ss
 within declared test i j [] h = absurd cc
-within declared test i j (s ∷ ss) h = of_two (λ k x. within declared test k (j + 1) ss x) (last_by test (places_from declared (j + 1) ss)) refl (sym (last_append test (named (declared s) j) (places_from declared (j + 1) ss)) ∙ h)
+within declared test i j (s ∷ ss) h = of_two (λ k x. within declared test k (j + 1) ss x) (last_by test (places_from declared (j + 1) ss)) refl (sym (last_append test (name_entry (declared s) j) (places_from declared (j + 1) ss)) ∙ h)
   where
     of_test : (b : Bool) → option_or None (if b then Some j else None) ≡ Some i → j ≡ i
     of_test true h = cc
     of_test false h = absurd cc
 
-    here : (name : Option _) → last_by test (named name j) ≡ Some i → j ≡ i
+    here : (name : Option _) → last_by test (name_entry name j) ≡ Some i → j ≡ i
     here None h = absurd cc
     here (Some k) h = of_test (test k) h
 
-    of_two : ((k : ℕ) → last_by test (places_from declared (j + 1) ss) ≡ Some k → k < (j + 1) + length ss) → (later : Option ℕ) → last_by test (places_from declared (j + 1) ss) ≡ later → option_or (last_by test (places_from declared (j + 1) ss)) (last_by test (named (declared s) j)) ≡ Some i → i < j + suc (length ss)
+    of_two : ((k : ℕ) → last_by test (places_from declared (j + 1) ss) ≡ Some k → k < (j + 1) + length ss) → (later : Option ℕ) → last_by test (places_from declared (j + 1) ss) ≡ later → option_or (last_by test (places_from declared (j + 1) ss)) (last_by test (name_entry (declared s) j)) ≡ Some i → i < j + suc (length ss)
     of_two rest None is h =
         let own = here (declared s) (rw is at h) in
         omega (arith, own)

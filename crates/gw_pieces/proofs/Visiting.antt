@@ -1,11 +1,11 @@
 -- The order is found by visits.
 use Rattle.std.proofs.Common.{◌≡◌, ◌∙◌, ◌<◌, ◌-◌, ◌+◌, ℕ, suc, List, [], ◌∷◌, ◌++◌, Some, Bool, slice_get, sym, ap, arith}
 use Rattle.gw_pieces.specs.declared.origins.Origin.{Origin}
-use Rattle.gw_pieces.specs.Order.{Lookup, Search, with_done, with_visited, unvisited, places_called, visit_to, visit_with, visit_each, search_to, numbers_from}
+use Rattle.gw_pieces.specs.Order.{Lookup, Search, with_done, with_visited, origin_unless_visited, places_called, visit_to, visit_with, visit_each, search_to, numbers_from}
 
 module _ (l : Lookup) where
   -- an origin is visited: it is marked, what it calls is visited, and it gets its place
-  pub visited : (deeper : Search → List ℕ → Search) (before marked after : Search) (place : ℕ) (o : Origin) (done : List Origin) → Some o ≡ unvisited (slice_get before.visited place) (slice_get l.origins place)
+  pub visited : (deeper : Search → List ℕ → Search) (before marked after : Search) (place : ℕ) (o : Origin) (done : List Origin) → Some o ≡ origin_unless_visited (slice_get before.visited place) (slice_get l.origins place)
       → marked ≡ with_visited before place → after ≡ deeper marked (places_called l o) → done ≡ after.done ++ o ∷ [] → record { visited = after.visited; done = done } ≡ visit_with l deeper before place
   visited deeper before marked after place o done is mark next grown =
       ap (λ d. search after.visited d) grown

@@ -11,7 +11,7 @@ use Rattle.gw_compile.specs.declared.numbering.Equ.{Equ}
 use Rattle.gw_compile.specs.declared.numbering.Equ.TheVariants.{Number, Procedure}
 use Rattle.gw_names.specs.declared.known.Known.{Known}
 use Rattle.gw_names.specs.Known.{found_in}
-use Rattle.gw_names.specs.Places.{Sets, is_equ, label_of, named, last_of, equ_number_of}
+use Rattle.gw_names.specs.Places.{Sets, is_equ, label_of, name_entry, last_of, equ_number_of}
 use Rattle.gw_pieces.specs.declared.naming.Meanings.{Meanings}
 use Rattle.gw_pieces.specs.declared.origins.Origin.{Origin}
 
@@ -54,7 +54,7 @@ callee_of ss order name = last_of (entries_from (callee_of_origin ss) 0 order) n
 
 -- an EQU stands for its procedure
 abbrev pub own_equ : Statement → ℕ → List (List ℕ × Equ)
-own_equ s place = if is_equ s.word then named (label_of s) (Procedure (number_at place)) else []
+own_equ s place = if is_equ s.word then name_entry (label_of s) (Procedure (number_at place)) else []
 
 -- and so does a statement without more lines
 abbrev pub equ_of_body : Body → Statement → ℕ → List (List ℕ × Equ)
@@ -74,12 +74,12 @@ abbrev pub equ_of_origin : List Statement → Origin → ℕ → List (List ℕ 
 equ_of_origin ss o place = equ_of_statement (slice_get ss o.statement) place
 
 -- or for the number that it is
-abbrev pub numbered : Option (List ℕ) → Option ℤ → List (List ℕ × Equ)
-numbered name None = []
-numbered name (Some z) = named name (Number z)
+abbrev pub equ_by_number : Option (List ℕ) → Option ℤ → List (List ℕ × Equ)
+equ_by_number name None = []
+equ_by_number name (Some z) = name_entry name (Number z)
 
 abbrev pub equ_of_number : (List ℕ → Option ℤ) → Statement → ℕ → List (List ℕ × Equ)
-equ_of_number numbers s i = if is_equ s.word then numbered (label_of s) (option_and_then numbers (label_of s)) else []
+equ_of_number numbers s i = if is_equ s.word then equ_by_number (label_of s) (option_and_then numbers (label_of s)) else []
 
 -- what a name stands for, where these names are numbers
 abbrev pub equ_by : (List ℕ → Option ℤ) → List Statement → List Origin → List ℕ → Option Equ
@@ -117,7 +117,7 @@ equs_in text order = entries_from (equ_in text) 0 order
 
 -- the number that a name is known to be
 abbrev pub known_number : Known → List ℕ → List (List ℕ × Equ)
-known_number known name = numbered (Some name) (found_in known.equ_numbers name)
+known_number known name = equ_by_number (Some name) (found_in known.equ_numbers name)
 
 -- the EQU that a statement is, if it is known to be a number
 abbrev pub known_equ : Known → Statement → ℕ → List (List ℕ × Equ)

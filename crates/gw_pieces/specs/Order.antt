@@ -210,10 +210,10 @@ abbrev pub with_visited : Search → ℕ → Search
 with_visited s place = record s { visited = set s.visited place true }
 
 -- the origin at a place, unless it was come to before
-abbrev pub unvisited : Option Bool → Option Origin → Option Origin
-unvisited (Some false) origin = origin
-unvisited (Some true) origin = None
-unvisited None origin = None
+abbrev pub origin_unless_visited : Option Bool → Option Origin → Option Origin
+origin_unless_visited (Some false) origin = origin
+origin_unless_visited (Some true) origin = None
+origin_unless_visited None origin = None
 
 module _ (l : Lookup) where
   -- an origin gets its place in the order behind what it calls, which gets its own so
@@ -222,7 +222,7 @@ module _ (l : Lookup) where
   visit_to deeper s place (Some o) = with_done (deeper (with_visited s place) (places_called l o)) o
 
   abbrev pub visit_with : (Search → List ℕ → Search) → Search → ℕ → Search
-  visit_with deeper s place = visit_to deeper s place (unvisited (slice_get s.visited place) (slice_get l.origins place))
+  visit_with deeper s place = visit_to deeper s place (origin_unless_visited (slice_get s.visited place) (slice_get l.origins place))
 
   -- so do those at these places, one after the other
   abbrev pub visit_each : (Search → List ℕ → Search) → Search → List ℕ → Search
@@ -244,12 +244,12 @@ abbrev pub search_all : Lookup → Search → Search
 search_all l s = visit_each l (search_to l (length l.origins)) s (numbers_from 0 (length l.origins))
 
 -- nothing was come to
-abbrev pub unsearched : ℕ → Search
-unsearched count = record { visited = replicate count false; done = [] }
+abbrev pub empty_search : ℕ → Search
+empty_search count = record { visited = replicate count false; done = [] }
 
 -- the origins in their order
 abbrev pub ordered_by : Lookup → List Origin
-ordered_by l = (search_all l (unsearched (length l.origins))).done
+ordered_by l = (search_all l (empty_search (length l.origins))).done
 
 -- the same, unless there are too many
 abbrev pub order_by : Lookup → List Origin

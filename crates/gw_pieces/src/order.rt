@@ -191,7 +191,7 @@ fn callees_of(alloc: Global, text: &Text<'_>, origin: Origin) -> Result<Vec<usiz
 
 /// The origin at a place, unless it was come to.
 fn unvisited(visited: &[bool], origins: &[Origin], place: usize) -> Option<Origin>
-    ensures { result ≡ model.unvisited (slice_get visited.now place) (slice_get origins.now place) }
+    ensures { result ≡ model.origin_unless_visited (slice_get visited.now place) (slice_get origins.now place) }
 {
     match visited.get(place) {
         Some(true) => None,

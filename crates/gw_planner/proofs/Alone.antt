@@ -7,7 +7,7 @@ use Rattle.gw_study.specs.declared.request.StudyRequest.{StudyRequest}
 use Rattle.gw_alternatives.specs.declared.form.Form.{Form}
 use Rattle.gw_alternatives.specs.Told.{IsStudyOfPoints, IsComparison}
 use Rattle.gw_command_line.specs.Words.{Demand}
-use Rattle.gw_planner.specs.Answers.{is_plain, request_of, words_of, IsFormOf, IsPair, studied_with, studied_alone, compared}
+use Rattle.gw_planner.specs.Answers.{is_plain, request_of, words_of, IsFormOf, IsPair, studied_with, studied_alone, comparison_answering}
 
 -- of a model as it is, as a table, a study tells
 pub of_study : {E : Type 0} (d : Demand) (bytes : List ℕ) (request : StudyRequest) (r : Result Answer E) → request ≡ request_of d → is_plain d.options ≡ true
@@ -32,7 +32,7 @@ of_points d bytes form words request (Err e) is_form is_words is h = tt
 -- and of two models a comparison
 pub of_models : {E : Type 0} (d : Demand) (bytes first second : List ℕ) (form : Form) (request : StudyRequest) (r : Result Answer E)
     → IsPair bytes first second → IsFormOf d.options form → request ≡ request_of d
-    → IfOk r (λ a. IsComparison first second form request a.text.items a.status) → IfOk r (λ a. compared d bytes a.text.items a.status)
+    → IfOk r (λ a. IsComparison first second form request a.text.items a.status) → IfOk r (λ a. comparison_answering d bytes a.text.items a.status)
 of_models d bytes first second form request (Ok a) pair is_form is h =
     (first, second, form, is_form, pair, subst (λ q. IsComparison first second form q a.text.items a.status) is h)
 of_models d bytes first second form request (Err e) pair is_form is h = tt

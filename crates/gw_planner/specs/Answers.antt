@@ -3,7 +3,7 @@ use Rattle.std.specs.Prelude.{◌≡◌, ◌≢◌, ◌⊎◌, ℕ, List, ◌++�
 use Rattle.std.specs.Borrow.{Bor}
 use Rattle.std.specs.Global.{Global}
 use Rattle.std.specs.Option.{unwrap_or}
-use Rattle.gw_answers.specs.Status.{ended}
+use Rattle.gw_answers.specs.Status.{end_status}
 use Rattle.gw_answers.specs.Answer.{IsAnswer}
 use Rattle.gw_answers.specs.Assembly.{IsAssembly}
 use Rattle.gw_answers.specs.Requests.{Answering}
@@ -33,12 +33,12 @@ use Rattle.gw_command_line.specs.declared.words.Span.{Span}
 -- what is reported of a text: the report of its object, or a refusal of that; or the refusal of the text
 abbrev pub IsReported : ℕ → ℕ → Answering
 IsReported seed count bytes text status =
-    ((object : List ℕ) × IsAssembly bytes object ended × IsAnswer seed count object text status)
-    ⊎ ((status ≢ ended) × IsAssembly bytes text status)
+    ((object : List ℕ) × IsAssembly bytes object end_status × IsAnswer seed count object text status)
+    ⊎ ((status ≢ end_status) × IsAssembly bytes text status)
 
 -- a text of GPSS World in this language, and what of it is still refused behind that
 pub record IsConversion (bytes text : List ℕ) (status : ℕ) : Type 0 where
-  pub ends : status ≡ ended
+  pub ends : status ≡ end_status
   pub new : List ℕ
   pub converted : IsConverted bytes new
   pub told : List ℕ
@@ -49,21 +49,21 @@ abbrev pub window_of : Span → Window
 window_of span = record { from = span.from; to = span.to }
 
 -- what answers a question about an input
-abbrev pub asked : Question → Answering
-asked Explain = IsExplained
-asked Lists = IsListed
-asked (Points span) = AnswersModel (IsSheet (window_of span))
-asked Convert = IsConversion
-asked (Trace from to) = AnswersModel (IsTrace from to)
-asked (Report seed count) = IsReported seed count
+abbrev pub question_answering : Question → Answering
+question_answering Explain = IsExplained
+question_answering Lists = IsListed
+question_answering (Points span) = AnswersModel (IsSheet (window_of span))
+question_answering Convert = IsConversion
+question_answering (Trace from to) = AnswersModel (IsTrace from to)
+question_answering (Report seed count) = IsReported seed count
 
 -- two models in one input: behind its front, which says how long the first is, the first and then the second
 abbrev pub IsPair : List ℕ → List ℕ → List ℕ → Type 0
 IsPair bytes first second = (front : List ℕ) × (bytes ≡ front ++ first ++ second)
 
 -- what answers a question for a picture under a name
-abbrev pub charted : Span → List ℕ → Answering
-charted span name = AnswersModel (IsChart (window_of span) name)
+abbrev pub chart_answering : Span → List ℕ → Answering
+chart_answering span name = AnswersModel (IsChart (window_of span) name)
 
 -- a request for runs, by what the command line asks for
 abbrev pub request_of : Demand → StudyRequest
@@ -105,15 +105,15 @@ studied_alone d bytes text status =
     MatchBool (is_plain d.options) (IsStudy bytes (request_of d) text status) (studied_with d bytes text status)
 
 -- what many runs of two models say: the first of them stands behind its length, and the second behind that
-abbrev pub compared : Demand → Answering
-compared d bytes text status =
+abbrev pub comparison_answering : Demand → Answering
+comparison_answering d bytes text status =
     (first : List ℕ) × (second : List ℕ) × (form : Form) × IsFormOf d.options form
     × IsPair bytes first second × IsComparison first second form (request_of d) text status
 
 -- what many runs say, of one model or of two
-abbrev pub studied : Bool → Demand → Answering
-studied true d bytes text status = compared d bytes text status
-studied false d bytes text status = studied_alone d bytes text status
+abbrev pub study_answering : Bool → Demand → Answering
+study_answering true d bytes text status = comparison_answering d bytes text status
+study_answering false d bytes text status = studied_alone d bytes text status
 
 -- a request for rows, by what the command line asks for
 abbrev pub rows_request_of : RunsDemand → RowsRequest

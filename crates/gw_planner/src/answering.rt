@@ -1,7 +1,7 @@
 //! Questions about one model or object, and their answers.
 
 ghost use Rattle.std.specs.Prelude.{◌≡◌, IfOk};
-ghost use Rattle.gw_planner.specs.Answers.{window_of as window_for, asked, charted};
+ghost use Rattle.gw_planner.specs.Answers.{window_of as window_for, question_answering, chart_answering};
 
 use crate::converting::conversion;
 use crate::reporting::report;
@@ -26,7 +26,7 @@ fn window_of(span: Span) -> Window
 
 /// What a question about a model text, or about an object, comes to. `Err` where memory runs out.
 pub fn answer(alloc: Global, question: Question, input: &[u8]) -> Result<Answer, Memory>
-    ensures { IfOk result (λ a. asked question input.now a.text.items a.status) }
+    ensures { IfOk result (λ a. question_answering question input.now a.text.items a.status) }
 {
     match question {
         Question::Explain => explain(alloc, input),
@@ -41,7 +41,7 @@ pub fn answer(alloc: Global, question: Question, input: &[u8]) -> Result<Answer,
 /// What a question for a picture of a model's run, under a name, comes to. `Err` where memory runs out.
 pub fn picture(alloc: Global, asked: &Chart<'_>, input: &[u8]) -> Result<Answer, Memory>
     ensures { IfOk result (λ a.
-        charted asked.now.span asked.now.name.now input.now a.text.items a.status) }
+        chart_answering asked.now.span asked.now.name.now input.now a.text.items a.status) }
 {
     chart(alloc, input, window_of(asked.span), asked.name.as_bytes())
 }

@@ -4,7 +4,7 @@ ghost use Rattle.std.specs.Prelude.{◌≡◌, map, option_map, IfOk, OnOk};
 ghost use Rattle.gw_command_line.specs.Asking.{MayBeMade};
 ghost use Rattle.gw_command_line.specs.Words.{study_view};
 ghost use Rattle.gw_command_line.specs.Options.{view};
-ghost use Rattle.gw_planner.specs.Answers.{request_of as request_for, is_plain as plain, words_of as words_for, studied, studied_alone, studied_with, compared, AddsWord, IsFormOf, IsPair};
+ghost use Rattle.gw_planner.specs.Answers.{request_of as request_for, is_plain as plain, words_of as words_for, study_answering, studied_alone, studied_with, comparison_answering, AddsWord, IsFormOf, IsPair};
 
 use byteorder::{BigEndian, ByteOrder};
 use gw_alternatives::{Form, compare, study_points};
@@ -139,7 +139,7 @@ fn answer_pair<T: Threads + Wait + Sync + Eprint>(
     input: &[u8],
 ) -> Result<Answer, Memory>
     requires { MayBeMade asked.now }
-    ensures { IfOk result (λ a. compared (study_view asked.now) input.now a.text.items a.status) }
+    ensures { IfOk result (λ a. comparison_answering (study_view asked.now) input.now a.text.items a.status) }
 {
     let (first, second) = models_in(input);
     tell_notes(rt, alloc, first);
@@ -158,7 +158,7 @@ pub fn answer_study<T: Threads + Wait + Sync + Eprint>(
     input: &[u8],
 ) -> Result<Answer, Memory>
     requires { MayBeMade asked.now }
-    ensures { IfOk result (λ a. studied is_pair (study_view asked.now) input.now a.text.items a.status) }
+    ensures { IfOk result (λ a. study_answering is_pair (study_view asked.now) input.now a.text.items a.status) }
 {
     if is_pair {
         answer_pair(rt, alloc, asked, input)

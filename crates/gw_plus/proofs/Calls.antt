@@ -11,7 +11,7 @@ use Rattle.gw_code.specs.declared.parts.Instruction.TheVariants.{Call}
 use Rattle.gw_code.specs.declared.parts.Procedure.{Procedure}
 use Rattle.gw_object.specs.declared.parts.Parts.{Parts}
 use Rattle.gw_operands.specs.Code.{procedure_at}
-use Rattle.gw_operands.specs.Meaning.{Frame, Calls, Stuck, calls, calls_with, given, on, opened}
+use Rattle.gw_operands.specs.Meaning.{Frame, Calls, Stuck, calls, calls_with, or_stuck, on, frame_of_locals}
 use Rattle.gw_plus.specs.declared.activation.Step.TheVariants.{Called}
 use Rattle.gw_plus.specs.Activation.{finish_of, Did}
 
@@ -22,7 +22,7 @@ padded [] m i = sym (at-get_or (pos 0) (replicate m (pos 0)) i) ∙ at-replicate
 padded (a ∷ arguments) m zero = refl
 padded (a ∷ arguments) m (suc i) = padded arguments m i
 
-pub next_local : (arguments : List ℤ) (count i : ℕ) → length arguments ≤ count → i < count → take (i + 1) (opened count arguments).locals ≡ take i (opened count arguments).locals ++ get_or arguments i (pos 0) ∷ []
+pub next_local : (arguments : List ℤ) (count i : ℕ) → length arguments ≤ count → i < count → take (i + 1) (frame_of_locals count arguments).locals ≡ take i (frame_of_locals count arguments).locals ++ get_or arguments i (pos 0) ∷ []
 next_local arguments count i enough within =
     let m = count - length arguments in
     let locals = arguments ++ replicate m (pos 0) in
@@ -37,7 +37,7 @@ procedure_read p q pr within is = slice_get_read p.procedures (length p.procedur
 pub call_within : (p : Parts) (q : ℕ) (f : Frame) → calls p q f ≢ Stuck → q < length p.procedures
 call_within p q f going = by (procedure_at p q) refl going
   where
-    by : (o : Option Procedure) → procedure_at p q ≡ o → given o (λ pr. calls_with q pr.arguments (on f)) ≢ Stuck → q < length p.procedures
+    by : (o : Option Procedure) → procedure_at p q ≡ o → or_stuck o (λ pr. calls_with q pr.arguments (on f)) ≢ Stuck → q < length p.procedures
     by None is moves = absurd (moves refl)
     by (Some pr) is moves = slice_get_within p.procedures q pr is
 
@@ -49,12 +49,12 @@ has_arguments p q f pr there going = by (nat_le pr.arguments (length f.stack)) r
     by false is = absurd (going (rw (there, is) refl))
 
 pub did_call : (p : Parts) (q : ℕ) (f : Frame) (pr : Procedure) (locals : ArrayVec ℤ) (arguments rest : List ℤ) → procedure_at p q ≡ Some pr → pr.arguments ≤ length f.stack
-    → arguments ≡ drop (length f.stack - pr.arguments) f.stack → rest ≡ take (length f.stack - pr.arguments) f.stack → locals.items ≡ (opened pr.locals arguments).locals
+    → arguments ≡ drop (length f.stack - pr.arguments) f.stack → rest ≡ take (length f.stack - pr.arguments) f.stack → locals.items ≡ (frame_of_locals pr.locals arguments).locals
     → Did p (Call q) (calls p q f) (Called q locals) (record f { place = f.place + 1; stack = rest })
 did_call p q f pr locals arguments rest there enough top below begun =
     let is : nat_le pr.arguments (length f.stack) ≡ true = grind (arith, nat_tests) in
     (arguments, rw (there, is, top, below) refl, rw there begun)
 
 -- a call without arguments
-pub did_call_alone : (p : Parts) (q : ℕ) (f : Frame) (pr : Procedure) (locals : ArrayVec ℤ) (i : Instruction) → procedure_at p q ≡ Some pr → locals.items ≡ (opened pr.locals []).locals → Did p i (Calls q [] (finish_of p i) f) (Called q locals) f
+pub did_call_alone : (p : Parts) (q : ℕ) (f : Frame) (pr : Procedure) (locals : ArrayVec ℤ) (i : Instruction) → procedure_at p q ≡ Some pr → locals.items ≡ (frame_of_locals pr.locals []).locals → Did p i (Calls q [] (finish_of p i) f) (Called q locals) f
 did_call_alone p q f pr locals i there begun = ([], refl, rw there begun)

@@ -15,7 +15,7 @@ use Rattle.gw_operands.specs.Sources.{kind_at}
 use Rattle.gw_rules.specs.Kinds.{entity_named}
 use Rattle.gw_rules.specs.KindsLaws.{IsEntity}
 use Rattle.gw_operands.specs.Environment.{Environment, kept_value}
-use Rattle.gw_operands.specs.Meaning.{Frame, Next, Stuck, given, pushed, reads_source}
+use Rattle.gw_operands.specs.Meaning.{Frame, Next, Stuck, or_stuck, push_value, reads_source}
 use Rattle.gw_rules.proofs.PlusReading.{IsGood}
 use Rattle.gw_plus.specs.declared.env.Env.{Env}
 use Rattle.gw_plus.specs.Reading.{environment_of, IsOf, MayRead, MayReadKept}
@@ -31,7 +31,7 @@ set_within ps k set = by (at None ps k) refl set
     by (Some v) is set = at_some ps k v is
 
 -- what an activation goes on with is there
-given_is_some : (o : Option ℤ) (next : ℤ → Next) → given o next ≢ Stuck → IsSome o
+given_is_some : (o : Option ℤ) (next : ℤ → Next) → or_stuck o next ≢ Stuck → IsSome o
 given_is_some None next moves = absurd (moves refl)
 given_is_some (Some v) next moves = refl
 
@@ -64,17 +64,17 @@ module _ (p : Parts) (env : Env) (of : IsOf p env) where
   -- a source that an activation reads without a call may be read
   pub may_read_kept : (source : Operand) (finish : ℤ → ℤ) (f : Frame) → IsGood p source → reads_source (environment_of env) source finish f ≢ Stuck → ((q : ℕ) → source ≢ Procedure q) → MayReadKept env source
   may_read_kept (Constant z) finish f good moves none = tt
-  may_read_kept (Parameter x) finish f good moves none = given_is_some (at None env.parameters.now.values x) (λ v. pushed (finish v) f) moves
+  may_read_kept (Parameter x) finish f good moves none = given_is_some (at None env.parameters.now.values x) (λ v. push_value (finish v) f) moves
   may_read_kept (Attribute a) finish f good moves none = record { number = of.number; clock = of.clock; mark = of.mark }
   may_read_kept (OfEntity a) finish f good moves none = may_read a.attribute a.number good.holds.entity
   may_read_kept (Random j) finish f good moves none = absurd (moves refl)
   may_read_kept (Procedure q) finish f good moves none = absurd (none q refl)
 
 -- what is made of a value that is kept comes onto the stack
-pub kept_read : (env : Environment) (source : Operand) (finish : ℤ → ℤ) (f : Frame) (v : ℤ) → kept_value env source ≡ Some v → reads_source env source finish f ≡ pushed (finish v) f
-kept_read env (Constant z) finish f v kept = ap (λ o. given o (λ x. pushed (finish x) f)) kept
-kept_read env (Parameter x) finish f v kept = ap (λ o. given o (λ x. pushed (finish x) f)) kept
-kept_read env (Attribute a) finish f v kept = ap (λ o. given o (λ x. pushed (finish x) f)) kept
-kept_read env (OfEntity a) finish f v kept = ap (λ o. given o (λ x. pushed (finish x) f)) kept
+pub kept_read : (env : Environment) (source : Operand) (finish : ℤ → ℤ) (f : Frame) (v : ℤ) → kept_value env source ≡ Some v → reads_source env source finish f ≡ push_value (finish v) f
+kept_read env (Constant z) finish f v kept = ap (λ o. or_stuck o (λ x. push_value (finish x) f)) kept
+kept_read env (Parameter x) finish f v kept = ap (λ o. or_stuck o (λ x. push_value (finish x) f)) kept
+kept_read env (Attribute a) finish f v kept = ap (λ o. or_stuck o (λ x. push_value (finish x) f)) kept
+kept_read env (OfEntity a) finish f v kept = ap (λ o. or_stuck o (λ x. push_value (finish x) f)) kept
 kept_read env (Random j) finish f v kept = absurd (cc)
 kept_read env (Procedure q) finish f v kept = absurd (cc)

@@ -19,8 +19,8 @@ use Rattle.gw_operands.specs.Environment.{Environment, attribute_value}
 use Rattle.gw_operands.specs.Results.{value_by_operand}
 use Rattle.gw_operands.specs.Code.{most_values, procedure_at}
 use Rattle.gw_operands.specs.declared.ends.PlusEnd.TheVariants.{LoopLimit}
-use Rattle.gw_operands.specs.Meaning.{Taken, taken_at, take_once, Frame, Next, Goes, Calls, Returns, Ends, Stuck, on, pushed, given, popped, calculated, calls_with, reads_source, act}
-use Rattle.gw_plus.specs.Activation.{is_taken, untaken, CanCount, CanCountEach}
+use Rattle.gw_operands.specs.Meaning.{Taken, taken_at, take_once, Frame, Next, Goes, Calls, Returns, Ends, Stuck, on, push_value, or_stuck, pop_value, calculate, calls_with, reads_source, act}
+use Rattle.gw_plus.specs.Activation.{is_taken, untaken_backs, CanCount, CanCountEach}
 
 -- AT FIRST
 
@@ -28,16 +28,16 @@ one_back : (b : Bool) (m n : ℕ) → m ≡ n → (if b && true then 1 else 0) +
 one_back true m n same = omega (arith, same)
 one_back false m n same = omega (arith, same)
 
-none_yet : (code : List Instruction) (k : ℕ) → untaken [] k code ≡ backs code
+none_yet : (code : List Instruction) (k : ℕ) → untaken_backs [] k code ≡ backs code
 none_yet [] k = refl
-none_yet (i ∷ code) k = one_back (is_back i) (untaken [] (k + 1) code) (backs code) (none_yet code (k + 1))
+none_yet (i ∷ code) k = one_back (is_back i) (untaken_backs [] (k + 1) code) (backs code) (none_yet code (k + 1))
 
 pub room_at_first : (code : List Instruction) → backs code ≤ most_backs → CanCountEach code []
 room_at_first code few = omega (arith, none_yet code 0)
 
 -- A BACK THAT WASN'T TAKEN YET
 
-one_more : (code : List Instruction) (taken : Taken) (k j m : ℕ) (i : Instruction) → slice_get code j ≡ Some i → is_back i ≡ true → m ≡ k + j → is_taken taken m ≡ false → 1 ≤ untaken taken k code
+one_more : (code : List Instruction) (taken : Taken) (k j m : ℕ) (i : Instruction) → slice_get code j ≡ Some i → is_back i ≡ true → m ≡ k + j → is_taken taken m ≡ false → 1 ≤ untaken_backs taken k code
 one_more [] taken k j m i there back at none = absurd (cc)
 one_more (x ∷ code) taken k zero m i there back at none =
     let here : m ≡ k = omega arith in
@@ -88,13 +88,13 @@ no_more true true c more = rw (more refl) (omega arith)
 no_more true false true more = omega arith
 no_more true false false more = omega arith
 
-untaken_later : (code : List Instruction) (taken : Taken) (m k : ℕ) → untaken (take_once taken m) k code ≤ untaken taken k code
+untaken_later : (code : List Instruction) (taken : Taken) (m k : ℕ) → untaken_backs (take_once taken m) k code ≤ untaken_backs taken k code
 untaken_later [] taken m k = omega arith
 untaken_later (x ∷ code) taken m k =
     let first = no_more (is_back x) (is_taken taken k) (is_taken (take_once taken m) k) (still_taken taken m k) in
     omega (arith, first, untaken_later code taken m (k + 1))
 
-one_less : (code : List Instruction) (taken : Taken) (k j m : ℕ) (i : Instruction) → slice_get code j ≡ Some i → is_back i ≡ true → m ≡ k + j → is_taken taken m ≡ false → untaken (take_once taken m) k code + 1 ≤ untaken taken k code
+one_less : (code : List Instruction) (taken : Taken) (k j m : ℕ) (i : Instruction) → slice_get code j ≡ Some i → is_back i ≡ true → m ≡ k + j → is_taken taken m ≡ false → untaken_backs (take_once taken m) k code + 1 ≤ untaken_backs taken k code
 one_less [] taken k j m i there back at none = absurd (cc)
 one_less (x ∷ code) taken k zero m i there back at none =
     let here : m ≡ k = omega arith in
@@ -130,28 +130,28 @@ KeepsRoom code (Ends end) = Unit {0}
 KeepsRoom code Stuck = Unit {0}
 
 module _ (code : List Instruction) where
-  pub pushed_keeps : (v : ℤ) (g : Frame) → CanCountEach code g.taken → KeepsRoom code (pushed v g)
+  pub pushed_keeps : (v : ℤ) (g : Frame) → CanCountEach code g.taken → KeepsRoom code (push_value v g)
   pushed_keeps v g room = by (nat_lt (length g.stack) most_values)
     where
       by : (b : Bool) → KeepsRoom code (if b then Goes (record g { stack = g.stack ++ v ∷ [] }) else Stuck)
       by true = room
       by false = tt
 
-  given_keeps : {X : Type 0} (o : Option X) (next : X → Next) → ((x : X) → KeepsRoom code (next x)) → KeepsRoom code (given o next)
+  given_keeps : {X : Type 0} (o : Option X) (next : X → Next) → ((x : X) → KeepsRoom code (next x)) → KeepsRoom code (or_stuck o next)
   given_keeps None next each = tt
   given_keeps (Some x) next each = each x
 
-  popped_keeps : (stack : List ℤ) (next : ℤ → List ℤ → Next) → ((v : ℤ) (rest : List ℤ) → KeepsRoom code (next v rest)) → KeepsRoom code (popped stack next)
+  popped_keeps : (stack : List ℤ) (next : ℤ → List ℤ → Next) → ((v : ℤ) (rest : List ℤ) → KeepsRoom code (next v rest)) → KeepsRoom code (pop_value stack next)
   popped_keeps stack next each = given_keeps (slice_get stack (length stack - 1)) (λ v. next v (take (length stack - 1) stack)) (λ v. each v (take (length stack - 1) stack))
 
-  calculated_keeps : (outcome : Result ℤ NumFault) (g : Frame) → CanCountEach code g.taken → KeepsRoom code (calculated outcome g)
+  calculated_keeps : (outcome : Result ℤ NumFault) (g : Frame) → CanCountEach code g.taken → KeepsRoom code (calculate outcome g)
   calculated_keeps (Ok v) g room = pushed_keeps v g room
   calculated_keeps (Err fault) g room = tt
 
   -- VALUE of a source
   read_keeps : (env : Environment) (source : Operand) (finish : ℤ → ℤ) (g : Frame) → CanCountEach code g.taken → KeepsRoom code (reads_source env source finish g)
   read_keeps env (operands.Constant z) finish g room = pushed_keeps (finish z) g room
-  read_keeps env (operands.Parameter x) finish g room = given_keeps (at None env.parameters x) (λ v. pushed (finish v) g) (λ v. pushed_keeps (finish v) g room)
+  read_keeps env (operands.Parameter x) finish g room = given_keeps (at None env.parameters x) (λ v. push_value (finish v) g) (λ v. pushed_keeps (finish v) g room)
   read_keeps env (operands.Attribute a) finish g room = pushed_keeps (finish (attribute_value env a)) g room
   read_keeps env (operands.OfEntity a) finish g room = pushed_keeps (finish (env.of_entity a)) g room
   read_keeps env (operands.Random j) finish g room = tt
@@ -161,7 +161,7 @@ module _ (code : List Instruction) where
     pub act_keeps : (i : Instruction) → slice_get code f.place ≡ Some i → KeepsRoom code (act p env i f)
     unfolding act
     act_keeps (Push v) there = pushed_keeps v (on f) room
-    act_keeps (Get local) there = given_keeps (slice_get f.locals local) (λ v. pushed v (on f)) (λ v. pushed_keeps v (on f) room)
+    act_keeps (Get local) there = given_keeps (slice_get f.locals local) (λ v. push_value v (on f)) (λ v. pushed_keeps v (on f) room)
     act_keeps (Set local) there =
         popped_keeps f.stack (λ v rest. if nat_lt local (length f.locals) then Goes (record f { place = f.place + 1; stack = rest; locals = slice_set f.locals local v }) else Stuck) (λ v rest. by v rest (nat_lt local (length f.locals)))
       where
@@ -170,11 +170,11 @@ module _ (code : List Instruction) where
         by v rest false = tt
     act_keeps (Value sna) there = read_keeps env (source_of p.entities (as_operand sna)) (value_by_operand p.entities (as_operand sna)) (on f) room
     act_keeps (Binary operator) there =
-        popped_keeps f.stack (λ right rest. popped rest (λ left below. calculated (binary_value operator left right) (record f { place = f.place + 1; stack = below }))) (λ right rest.
-        popped_keeps rest (λ left below. calculated (binary_value operator left right) (record f { place = f.place + 1; stack = below })) (λ left below.
+        popped_keeps f.stack (λ right rest. pop_value rest (λ left below. calculate (binary_value operator left right) (record f { place = f.place + 1; stack = below }))) (λ right rest.
+        popped_keeps rest (λ left below. calculate (binary_value operator left right) (record f { place = f.place + 1; stack = below })) (λ left below.
         calculated_keeps (binary_value operator left right) (record f { place = f.place + 1; stack = below }) room))
     act_keeps (Unary operator) there =
-        popped_keeps f.stack (λ v rest. calculated (unary_value operator v) (record f { place = f.place + 1; stack = rest })) (λ v rest.
+        popped_keeps f.stack (λ v rest. calculate (unary_value operator v) (record f { place = f.place + 1; stack = rest })) (λ v rest.
         calculated_keeps (unary_value operator v) (record f { place = f.place + 1; stack = rest }) room)
     act_keeps Pop there = popped_keeps f.stack (λ v rest. Goes (record f { place = f.place + 1; stack = rest })) (λ v rest. room)
     act_keeps (Jump target) there = room

@@ -14,14 +14,14 @@ use Rattle.gw_rules.specs.KindsLaws.{InstructionHolds}
 use Rattle.gw_operands.specs.Code.{procedure_at, costs_of}
 use Rattle.gw_operands.specs.Environment.{Environment}
 use Rattle.gw_rules.specs.PlusLaws.{HasSet}
-use Rattle.gw_operands.specs.Meaning.{Frame, Next, Goes, Stuck, pushed, act, next, opening, Derives, returns, ends, goes, call_ends, call_gives}
+use Rattle.gw_operands.specs.Meaning.{Frame, Next, Goes, Stuck, push_value, act, next, opening_frame, Derives, returns, ends, goes, call_ends, call_gives}
 use Rattle.gw_operands.specs.declared.ends.PlusEnd.{PlusEnd}
 use Rattle.gw_rules.proofs.Potential.{potential}
 use Rattle.gw_rules.proofs.PlusRules.{checked}
 use Rattle.gw_rules.proofs.PlusSteps.{Sound, Ready, Well, CallsWell, next_well, opened_ready}
 use Rattle.gw_plus.specs.Activation.{HasGoodCode}
 use Rattle.gw_plus.specs.declared.activation.Step.TheVariants.{Called, Returned, Ended}
-use Rattle.gw_plus.specs.Activation.{begun, Begins, CanCountEach, CanCount, finish_of, Did}
+use Rattle.gw_plus.specs.Activation.{first_frame, Begins, CanCountEach, CanCount, finish_of, Did}
 use Rattle.gw_plus.proofs.Room.{room_at_first, room_for, KeepsRoom, pushed_keeps, act_keeps}
 
 -- where an activation of the procedure n with this code stands that began with these locals
@@ -33,7 +33,7 @@ pub record Standing (p : Parts) (env : Environment) (n : ℕ) (code : List Instr
   pub sound : Sound p n procedure
   pub ready : Ready procedure sound.heights f
   pub room : CanCountEach code f.taken
-  pub onward : (count : ℕ) (r : Result ℤ PlusEnd) → Derives p env n f count r → (all : ℕ) × Derives p env n (begun locals) all r
+  pub onward : (count : ℕ) (r : Result ℤ PlusEnd) → Derives p env n f count r → (all : ℕ) × Derives p env n (first_frame locals) all r
 
 -- what is left of the cost
 abbrev pub left : Parts → List Instruction → Frame → ℕ
@@ -44,12 +44,12 @@ left p code f = potential p.entities (costs_of p) code f
 same_procedure : (o : Option Procedure) (a b : Procedure) → o ≡ Some a → o ≡ Some b → a ≡ b
 same_procedure o a b first second = cc
 
-pub begin : (p : Parts) (env : Environment) (n : ℕ) (pr : Procedure) (code : List Instruction) (locals : List ℤ) (f : Frame) → HasGoodCode p → procedure_at p n ≡ Some pr → code ≡ pr.code → Begins p env n locals → f ≡ begun locals → Standing p env n code locals f
+pub begin : (p : Parts) (env : Environment) (n : ℕ) (pr : Procedure) (code : List Instruction) (locals : List ℤ) (f : Frame) → HasGoodCode p → procedure_at p n ≡ Some pr → code ≡ pr.code → Begins p env n locals → f ≡ first_frame locals → Standing p env n code locals f
 begin p env n pr code locals f good there code_is begins at_first =
     let same = same_procedure (procedure_at p n) begins.procedure pr begins.may.there there in
     let sound = (checked p good.passes n pr there).sound in
     let arguments : length begins.arguments ≡ pr.arguments = begins.may.arguments ∙ ap (λ (x : Procedure). x.arguments) same in
-    let opened : opening (Some pr) begins.arguments ≡ f = ap (λ (x : Procedure). opening (Some x) begins.arguments) (sym same) ∙ ap begun (sym begins.locals_are) ∙ sym at_first in
+    let opened : opening_frame (Some pr) begins.arguments ≡ f = ap (λ (x : Procedure). opening_frame (Some x) begins.arguments) (sym same) ∙ ap first_frame (sym begins.locals_are) ∙ sym at_first in
     let room : CanCountEach pr.code f.taken = subst (λ (g : Frame). CanCountEach pr.code g.taken) (sym at_first) (room_at_first pr.code (good.holds.procedures n pr there).0.backs) in
     record {
       procedure = pr;
@@ -124,10 +124,10 @@ module _ (p : Parts) (env : Environment) (n : ℕ) (code : List Instruction) (lo
   pub went_less : (g : Frame) → act p env i f ≡ Goes g → left p code g < left p code f
   went_less g is = let paid : left p pr.code g + 1 ≤ left p pr.code f = (subst WellHere is well).1 in subst (λ c. left p c g < left p c f) s.code_is (omega (arith, paid))
 
-  pub returned : (v : ℤ) (g : Frame) → Did p i (act p env i f) (Returned v) g → (all : ℕ) × Derives p env n (begun locals) all (Ok v)
+  pub returned : (v : ℤ) (g : Frame) → Did p i (act p env i f) (Returned v) g → (all : ℕ) × Derives p env n (first_frame locals) all (Ok v)
   returned v g is = s.onward 1 (Ok v) (returns (did _ is))
 
-  pub ended : (end : PlusEnd) (g : Frame) → Did p i (act p env i f) (Ended end) g → (all : ℕ) × Derives p env n (begun locals) all (Err end)
+  pub ended : (end : PlusEnd) (g : Frame) → Did p i (act p env i f) (Ended end) g → (all : ℕ) × Derives p env n (first_frame locals) all (Err end)
   ended end g is = s.onward 1 (Err end) (ends (did _ is))
 
   module _ (q : ℕ) (given : ArrayVec ℤ) (g : Frame) (d : Did p i (act p env i f) (Called q given) g) where
@@ -137,8 +137,8 @@ module _ (p : Parts) (env : Environment) (n : ℕ) (code : List Instruction) (lo
     pub called_lower : q < n
     called_lower = calls_well.lower
 
-    locals_are : given.items ≡ (opening (Some calls_well.procedure) d.0).locals
-    locals_are = d.2 ∙ ap (λ (o : Option Procedure). (opening o d.0).locals) calls_well.there
+    locals_are : given.items ≡ (opening_frame (Some calls_well.procedure) d.0).locals
+    locals_are = d.2 ∙ ap (λ (o : Option Procedure). (opening_frame o d.0).locals) calls_well.there
 
     pub called_begins : Begins p env q given.items
     called_begins =
@@ -150,21 +150,21 @@ module _ (p : Parts) (env : Environment) (n : ℕ) (code : List Instruction) (lo
           locals_are = locals_are;
         }
 
-    pub received_moves : (v : ℤ) → pushed v g ≢ Stuck
+    pub received_moves : (v : ℤ) → push_value v g ≢ Stuck
     received_moves v stuck = let is = (calls_well.answered v).is in absurd (cc)
 
-    from_opening : (count : ℕ) (r : Result ℤ PlusEnd) → Derives p env q (begun given.items) count r → Derives p env q (opening (procedure_at p q) d.0) count r
+    from_opening : (count : ℕ) (r : Result ℤ PlusEnd) → Derives p env q (first_frame given.items) count r → Derives p env q (opening_frame (procedure_at p q) d.0) count r
     from_opening count r c =
-        let is : begun given.items ≡ opening (procedure_at p q) d.0 = ap begun locals_are ∙ ap (λ (o : Option Procedure). opening o d.0) (sym calls_well.there) in
+        let is : first_frame given.items ≡ opening_frame (procedure_at p q) d.0 = ap first_frame locals_are ∙ ap (λ (o : Option Procedure). opening_frame o d.0) (sym calls_well.there) in
         subst (λ h. Derives p env q h count r) is c
 
-    pub called_ended : (count : ℕ) (end : PlusEnd) → Derives p env q (begun given.items) count (Err end) → (all : ℕ) × Derives p env n (begun locals) all (Err end)
+    pub called_ended : (count : ℕ) (end : PlusEnd) → Derives p env q (first_frame given.items) count (Err end) → (all : ℕ) × Derives p env n (first_frame locals) all (Err end)
     called_ended count end c = s.onward (suc count) (Err end) (call_ends (did _ d.1) (from_opening count (Err end) c))
 
-    same_frame : (v : ℤ) (h : Frame) → pushed v g ≡ Goes h → (calls_well.answered v).frame ≡ h
+    same_frame : (v : ℤ) (h : Frame) → push_value v g ≡ Goes h → (calls_well.answered v).frame ≡ h
     same_frame v h push = let is = (calls_well.answered v).is in let same : Goes (calls_well.answered v).frame ≡ Goes h = sym is ∙ push in cc
 
-    pub called_gave : (count : ℕ) (v w : ℤ) (h : Frame) → Derives p env q (begun given.items) count (Ok v) → w ≡ finish_of p i v → pushed w g ≡ Goes h → Standing p env n code locals h
+    pub called_gave : (count : ℕ) (v w : ℤ) (h : Frame) → Derives p env q (first_frame given.items) count (Ok v) → w ≡ finish_of p i v → push_value w g ≡ Goes h → Standing p env n code locals h
     called_gave count v w h c made push = record {
       procedure = pr;
       there = s.there;
@@ -173,10 +173,10 @@ module _ (p : Parts) (env : Environment) (n : ℕ) (code : List Instruction) (lo
       sound = s.sound;
       ready = subst (Ready pr s.sound.heights) (same_frame w h push) (calls_well.answered w).ready;
       room = subst (KeepsRoom code) push (pushed_keeps code w g (subst (KeepsRoom code) d.1 keeps));
-      onward = λ more r rest. s.onward (suc (count + more)) r (call_gives (did _ d.1) (from_opening count (Ok v) c) (subst (λ x. pushed x g ≡ Goes h) made push) rest);
+      onward = λ more r rest. s.onward (suc (count + more)) r (call_gives (did _ d.1) (from_opening count (Ok v) c) (subst (λ x. push_value x g ≡ Goes h) made push) rest);
     }
 
-    pub called_less : (v : ℤ) (h : Frame) → pushed v g ≡ Goes h → left p code h < left p code f
+    pub called_less : (v : ℤ) (h : Frame) → push_value v g ≡ Goes h → left p code h < left p code f
     called_less v h push =
         let paid = (calls_well.answered v).paid in
         let same = ap (left p pr.code) (same_frame v h push) in

@@ -15,7 +15,7 @@ use Rattle.gw_rules.specs.PlusLaws.{MayBegin, CodeHolds}
 use Rattle.gw_operands.specs.Results.{value_by_operand}
 use Rattle.gw_rules.specs.PlusChecks.{PlusPasses}
 use Rattle.gw_operands.specs.declared.ends.PlusEnd.{PlusEnd}
-use Rattle.gw_operands.specs.Meaning.{Taken, Frame, Next, taken_at, take_once, Goes, Calls, Returns, Ends, Derives, opening, on, reads, calls, act}
+use Rattle.gw_operands.specs.Meaning.{Taken, Frame, Next, taken_at, take_once, Goes, Calls, Returns, Ends, Derives, opening_frame, on, reads, calls, act}
 use Rattle.gw_plus.specs.Reading.{environment_of}
 use Rattle.gw_plus.specs.declared.env.Env.{Env}
 use Rattle.gw_plus.specs.declared.activation.Turns.{Turns}
@@ -42,15 +42,15 @@ abbrev pub without_top : Frame → Frame
 without_top f = record f { stack = take (length f.stack - 1) f.stack }
 
 -- where an activation begins that has these locals
-abbrev pub begun : List ℤ → Frame
-begun locals = record { place = 0; stack = []; locals = locals; taken = [] }
+abbrev pub first_frame : List ℤ → Frame
+first_frame locals = record { place = 0; stack = []; locals = locals; taken = [] }
 
 -- an activation of the procedure n that may begin does so with these locals
 pub record Begins (p : Parts) (env : Environment) (n : ℕ) (locals : List ℤ) : Type 0 where
   pub procedure : Procedure
   pub arguments : List ℤ
   pub may : MayBegin p env n procedure arguments
-  pub locals_are : locals ≡ (opening (Some procedure) arguments).locals
+  pub locals_are : locals ≡ (opening_frame (Some procedure) arguments).locals
 
 -- COUNTS
 
@@ -73,13 +73,13 @@ CountsByEntry entry k old new =
     (n : ℕ) → n ≡ taken_at (taken_of old) k + 1 → slice_set (taken_of new) entry (k, n) ≡ take_once (taken_of old) k
 
 -- how many BACKs there are, among these instructions from number k on, that weren't taken yet
-abbrev pub untaken : Taken → ℕ → List Instruction → ℕ
-untaken taken k [] = 0
-untaken taken k (i ∷ code) = (if is_back i && not (is_taken taken k) then 1 else 0) + untaken taken (k + 1) code
+abbrev pub untaken_backs : Taken → ℕ → List Instruction → ℕ
+untaken_backs taken k [] = 0
+untaken_backs taken k (i ∷ code) = (if is_back i && not (is_taken taken k) then 1 else 0) + untaken_backs taken (k + 1) code
 
 -- each BACK of a code can be counted, also those that weren't taken yet
 abbrev pub CanCountEach : List Instruction → Taken → Type 0
-CanCountEach code taken = length taken + untaken taken 0 code ≤ most_backs
+CanCountEach code taken = length taken + untaken_backs taken 0 code ≤ most_backs
 
 -- STEPS
 
@@ -91,7 +91,7 @@ finish_of p other = λ v. v
 -- an activation did what comes next, which is what this instruction does: it stands here then, and its step tells what was called, returned or ended
 abbrev pub Did : Parts → Instruction → Next → Step → Frame → Type 0
 Did p i next Went f = next ≡ Goes f
-Did p i next (Called q locals) f = (arguments : List ℤ) × (next ≡ Calls q arguments (finish_of p i) f) × (locals.items ≡ (opening (procedure_at p q) arguments).locals)
+Did p i next (Called q locals) f = (arguments : List ℤ) × (next ≡ Calls q arguments (finish_of p i) f) × (locals.items ≡ (opening_frame (procedure_at p q) arguments).locals)
 Did p i next (Returned v) f = next ≡ Returns v
 Did p i next (Ended end) f = next ≡ Ends end
 
@@ -139,4 +139,4 @@ CanCountNext a = CanCount (taken_of a.turns.items) a.place
 
 -- the procedure of a number that begins with these locals has this value, or ends so
 abbrev pub Activates : Parts → Env → ℕ → List ℤ → Result ℤ PlusEnd → Type 0
-Activates p env number locals result = (count : ℕ) × Derives p (environment_of env) number (begun locals) count result
+Activates p env number locals result = (count : ℕ) × Derives p (environment_of env) number (first_frame locals) count result

@@ -7,9 +7,9 @@ ghost use Rattle.gw_code.specs.Grammar.{is_back};
 ghost use Rattle.gw_rules.specs.KindsLaws.{InstructionHolds};
 ghost use Rattle.gw_rules.specs.PlusLaws.{CodeHolds};
 ghost use Rattle.gw_operands.specs.Meaning as model;
-ghost use Rattle.gw_operands.specs.Meaning.{Goes, Stuck, on, pushed, calculated, opened};
+ghost use Rattle.gw_operands.specs.Meaning.{Goes, Stuck, on, push_value, calculate, frame_of_locals};
 ghost use Rattle.gw_plus.specs.Reading.{IsOf};
-ghost use Rattle.gw_plus.specs.Activation.{taken_of, frame_of, begun, top_of, next_read, next_of, finish_of, CanCount, CanCountNext, Does, CallsAlone, DoesCall, HasEntry, CountsByEntry, without_top, DoesRead, DoesInstruction};
+ghost use Rattle.gw_plus.specs.Activation.{taken_of, frame_of, first_frame, top_of, next_read, next_of, finish_of, CanCount, CanCountNext, Does, CallsAlone, DoesCall, HasEntry, CountsByEntry, without_top, DoesRead, DoesInstruction};
 
 use crate::env::Env;
 use arrayvec::ArrayVec;
@@ -69,7 +69,7 @@ pub fn ended_by(fault: NumFault) -> PlusEnd
 pub(crate) fn opening_locals(count: u8, arguments: &[i64]) -> ArrayVec<i64, 32>
     requires arguments { length arguments.now ≤ count }
     requires room { count ≤ most_locals }
-    ensures { result.items ≡ (opened count arguments.now).locals }
+    ensures { result.items ≡ (frame_of_locals count arguments.now).locals }
 {
     let mut locals = ArrayVec::new();
     for i in 0..count as usize {
@@ -115,7 +115,7 @@ pub(crate) fn finished(parts: &Parts, instruction: Instruction, value: i64) -> i
 impl Activation {
     /// The activation that begins with these locals.
     pub fn begin(locals: ArrayVec<i64, 32>) -> Activation
-        ensures { frame_of result ≡ begun locals.items }
+        ensures { frame_of result ≡ first_frame locals.items }
     {
         Activation {
             place: 0,
@@ -127,8 +127,8 @@ impl Activation {
 
     /// Puts a value onto the stack.
     pub fn push(&mut self, value: i64)
-        requires { pushed value (frame_of self.old) ≢ Stuck }
-        ensures { pushed value (frame_of self.old) ≡ Goes (frame_of self.new) }
+        requires { push_value value (frame_of self.old) ≢ Stuck }
+        ensures { push_value value (frame_of self.old) ≡ Goes (frame_of self.new) }
     {
         self.stack.push(value);
     }
@@ -154,9 +154,9 @@ impl Activation {
 
     /// PUSH: this value comes onto the stack. GET, VALUE and the operators end so too.
     fn push_and_go(&mut self, value: i64) -> Step
-        requires going { pushed value (on (frame_of self.old)) ≢ Stuck }
+        requires going { push_value value (on (frame_of self.old)) ≢ Stuck }
         requires place { self.old.place < most_instructions }
-        ensures { Does (λ f. pushed value (on f)) self.old self.new result }
+        ensures { Does (λ f. push_value value (on f)) self.old self.new result }
     {
         self.place += 1;
         self.push(value);
@@ -165,9 +165,9 @@ impl Activation {
 
     /// Goes on to the next instruction with what an operator made of its values, or ends.
     fn settle(&mut self, outcome: Result<i64, NumFault>) -> Step
-        requires going { calculated outcome (on (frame_of self.old)) ≢ Stuck }
+        requires going { calculate outcome (on (frame_of self.old)) ≢ Stuck }
         requires place { self.old.place < most_instructions }
-        ensures { Does (λ f. calculated outcome (on f)) self.old self.new result }
+        ensures { Does (λ f. calculate outcome (on f)) self.old self.new result }
     {
         match outcome {
             Ok(value) => self.push_and_go(value),

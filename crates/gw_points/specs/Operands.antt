@@ -95,5 +95,5 @@ unfoldable pub cut_of : List ℕ → List ℕ → Option (List ℕ × List ℕ)
 cut_of name line = option_and_then (cut_operand line) (operand_of name line)
 
 -- what stands before a number and what follows it, with a number between
-abbrev pub joined : ℤ → List ℕ × List ℕ → List ℕ
-joined value cut = cut.0 ++ signed_decimal value ++ cut.1
+abbrev pub with_number_between : ℤ → List ℕ × List ℕ → List ℕ
+with_number_between value cut = cut.0 ++ signed_decimal value ++ cut.1

@@ -2,7 +2,7 @@
 use Rattle.std.specs.Prelude.{◌≡◌, Result, MatchResult, ℕ, ◌+◌, ◌^◌, nat_lt, List, [], ◌∷◌, ◌++◌, length, take, drop, ℤ, pos, neg_ℤ, Bool, ◌==◌, ◌&&◌, if◌then◌else◌, Option, Some, None, option_and_then, option_map}
 use Rattle.std.specs.List.{slice_split, position_or_len}
 use Rattle.gw_num.specs.Numerals.{is_number}
-use Rattle.gw_text_tokens.specs.Numbers.{spelled}
+use Rattle.gw_text_tokens.specs.Numbers.{spelled_number}
 use Rattle.gw_points.specs.Refusals.{refusal_text}
 use Rattle.gw_points.specs.declared.fault.NoPoint.{NoPoint}
 use Rattle.gw_points.specs.declared.fault.NoPoint.TheVariants.{Refused, Memory}
@@ -19,7 +19,7 @@ is_comma byte = byte == 44
 
 -- the number that digits spell, if it is below 2^63
 abbrev pub count_in : List ℕ → Option ℕ
-count_in digits = if is_number digits && nat_lt (spelled 0 digits) (2 ^ 63) then Some (spelled 0 digits) else None
+count_in digits = if is_number digits && nat_lt (spelled_number 0 digits) (2 ^ 63) then Some (spelled_number 0 digits) else None
 
 abbrev pub positive : Option ℕ → Option ℤ
 positive None = None

@@ -2,7 +2,7 @@
 use Rattle.std.specs.Prelude.{◌≡◌, ℕ, ◌+◌, ◌<◌, List, [], ◌∷◌, ◌++◌, slice_index_or, ℤ, is_some, ◌==◌, if◌then◌else◌, Option, Some, None, Result, MatchResult, Vec, map}
 use Rattle.std.specs.Borrow.{Bor}
 use Rattle.std.specs.Global.{Global}
-use Rattle.gw_points.specs.Operands.{operand_of, cut_of, joined}
+use Rattle.gw_points.specs.Operands.{operand_of, cut_of, with_number_between}
 use Rattle.gw_points.specs.Refusals.{refusal_text}
 use Rattle.gw_points.specs.declared.fault.NoPoint.{NoPoint}
 use Rattle.gw_points.specs.declared.fault.NoPoint.TheVariants.{Refused, Memory}
@@ -34,7 +34,7 @@ text_with_line number other lines = text_from 0 number other (map (λ line. line
 
 -- the same, where that line is cut and a number put in between
 abbrev pub text_with_value : ℕ → ℤ → List ℕ × List ℕ → List (Bor (List ℕ)) → List ℕ
-text_with_value number value cut lines = text_with_line number (joined value cut) lines
+text_with_value number value cut lines = text_with_line number (with_number_between value cut) lines
 
 -- a text has these lines, but for another number on the one line of a name
 pub record IsRenumbered (lines : List (List ℕ)) (name : List ℕ) (value : ℤ) (text : List ℕ) : Type 0 where
@@ -42,7 +42,7 @@ pub record IsRenumbered (lines : List (List ℕ)) (name : List ℕ) (value : ℤ
   pub cut : List ℕ × List ℕ
   pub one : lines_of name 0 lines ≡ number ∷ []
   pub there : cut_of name (slice_index_or lines number []) ≡ Some cut
-  pub made : text ≡ text_from 0 number (joined value cut) lines
+  pub made : text ≡ text_from 0 number (with_number_between value cut) lines
 
 -- two lines or more are the name's, and the second is at fault
 pub record AreMany (lines : List (List ℕ)) (name : List ℕ) (line : ℕ) : Type 0 where

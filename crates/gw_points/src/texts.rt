@@ -2,7 +2,7 @@
 
 ghost use Rattle.std.specs.Prelude.{◌≡◌, ◌<◌, ◌++◌, ◌∷◌, [], map, length, slice_index_or, is_some, IfOk, OnOk};
 ghost use Rattle.std.specs.Str.Lines.{lines as lines_of_text};
-ghost use Rattle.gw_points.specs.Operands.{operand_of as operand, joined};
+ghost use Rattle.gw_points.specs.Operands.{operand_of as operand, with_number_between};
 ghost use Rattle.gw_points.specs.Refusals.{Makes};
 ghost use Rattle.gw_points.specs.Texts as model;
 ghost use Rattle.gw_points.specs.Texts.{text_with_value};
@@ -59,7 +59,7 @@ fn put_line(out: &mut Vec<u8>, line: &[u8]) -> Result<(), Memory>
 
 /// What stands before a number, the number, and what follows it.
 fn joined_line(alloc: Global, before: &[u8], rest: &[u8], value: i64) -> Result<Vec<u8>, Memory>
-    ensures { IfOk result (λ line. line.items ≡ joined value (before.now, rest.now)) }
+    ensures { IfOk result (λ line. line.items ≡ with_number_between value (before.now, rest.now)) }
 {
     let mut buffer = Buffer::new();
     let mut line = Vec::new(alloc);

@@ -3,7 +3,7 @@ use Rattle.std.proofs.Common.{◌≡◌, ◌↔◌, ℕ, zero, suc, List, [], �
 use Rattle.std.specs.Prelude.{All, Decides}
 use Rattle.std.proofs.lemmas.List.Elements.{All-nil, All-cons, All-head, All-tail}
 use Rattle.gw_blocks.specs.declared.parts.Block.{Block}
-use Rattle.gw_rules.specs.Checks.{Check, first_broken, numbered}
+use Rattle.gw_rules.specs.Checks.{Check, first_broken, checks_by_number}
 use Rattle.gw_rules.specs.Kinds.{block_at}
 use Rattle.gw_rules.proofs.Each.{Hold, first_and_others, first_with_others, at_number, each_holds, all_hold}
 
@@ -27,9 +27,9 @@ each_decided f P d (x ∷ xs) = (
 
 module _ (f : ℕ → Block → List Check) where
   -- what the checks of all blocks say of each, by its number
-  pub numbered_holds : (bs : List Block) (b : ℕ) (block : Block) → Hold (numbered f 1 bs) → block_at bs b ≡ Some block → Hold (f b block)
+  pub numbered_holds : (bs : List Block) (b : ℕ) (block : Block) → Hold (checks_by_number f 1 bs) → block_at bs b ≡ Some block → Hold (f b block)
   numbered_holds bs zero block h is = absurd (cc)
   numbered_holds bs (suc i) block h is = at_number f block (omega arith) (each_holds f 1 bs i block h is)
 
-  pub all_numbered_hold : (bs : List Block) → ((b : ℕ) (block : Block) → block_at bs b ≡ Some block → Hold (f b block)) → Hold (numbered f 1 bs)
+  pub all_numbered_hold : (bs : List Block) → ((b : ℕ) (block : Block) → block_at bs b ≡ Some block → Hold (f b block)) → Hold (checks_by_number f 1 bs)
   all_numbered_hold bs h = all_hold f 1 bs (λ i block is. at_number f block (omega arith) (h (suc i) block is))

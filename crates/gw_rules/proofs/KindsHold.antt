@@ -21,7 +21,7 @@ use Rattle.gw_rules.specs.declared.entities.Named.{Named}
 use Rattle.gw_rules.specs.declared.ways.Way.{Way}
 use Rattle.gw_rules.specs.declared.ways.Way.TheVariants.{Falls, Goes}
 use Rattle.gw_rules.specs.declared.ways.Exit.{Exit}
-use Rattle.gw_rules.specs.Checks.{Check, numbered}
+use Rattle.gw_rules.specs.Checks.{Check, checks_by_number}
 use Rattle.gw_operands.specs.Sources.{operand_of, values}
 use Rattle.gw_rules.specs.Exits.{leads_to, exits, other_way, ways}
 use Rattle.gw_rules.specs.Kinds.{is_none_or, named_entities, named_procedures, entities_of_row, names_no_other_kind, are_there, is_no_other_kind, is_there, takes_no_arguments, is_procedure, is_block, block_at, is_generate, number_of, block_of, named_blocks, has_named_blocks, leads_to_no_generate, stays_inside, is_call_at, return_rows_of, has_return_rows, names_well, has_plain_argument, has_plain_half, entity_checks, naming_checks, exit_checks, constant_checks, return_checks, row_checks, chain_row, chain_checks, block_checks}
@@ -237,7 +237,7 @@ checks_from_block p b block h =
 -- THE OBJECT
 
 -- at a block, by its number
-block_holds : (p : Parts) (b : ℕ) (block : Block) → Hold (numbered (block_checks p) 1 p.blocks) → block_at p.blocks b ≡ Some block → BlockHolds p b block
+block_holds : (p : Parts) (b : ℕ) (block : Block) → Hold (checks_by_number (block_checks p) 1 p.blocks) → block_at p.blocks b ≡ Some block → BlockHolds p b block
 block_holds p zero block h is = absurd (cc)
 block_holds p (suc i) block h is = block_from_checks p (suc i) block (at_number (block_checks p) block (omega arith) (each_holds (block_checks p) 1 p.blocks i block h is))
 
@@ -257,11 +257,11 @@ unfolding kinds_checks
 kinds_pass_at_each_place p =
     let of_rows : ℕ → Option TableState → List Check = λ b. row_checks p (places.Block b) in (
       λ h.
-          let six = parts_hold (numbered (entity_checks p) 0 p.entities) (procedure_and_later_checks p) h in
-          let five = parts_hold (numbered (procedure_checks p) 0 p.procedures) (return_and_later_checks p) six.1 in
-          let four = parts_hold (numbered (return_checks p) 0 p.returns) (row_and_later_checks p) five.1 in
-          let three = parts_hold (numbered of_rows 1 p.states) (chain_and_block_checks p) four.1 in
-          let two = parts_hold (numbered (chain_checks p) 0 p.entities) (numbered (block_checks p) 1 p.blocks) three.1 in (
+          let six = parts_hold (checks_by_number (entity_checks p) 0 p.entities) (procedure_and_later_checks p) h in
+          let five = parts_hold (checks_by_number (procedure_checks p) 0 p.procedures) (return_and_later_checks p) six.1 in
+          let four = parts_hold (checks_by_number (return_checks p) 0 p.returns) (row_and_later_checks p) five.1 in
+          let three = parts_hold (checks_by_number of_rows 1 p.states) (chain_and_block_checks p) four.1 in
+          let two = parts_hold (checks_by_number (chain_checks p) 0 p.entities) (checks_by_number (block_checks p) 1 p.blocks) three.1 in (
             each_has (entity_checks p) (EntityHolds p) (entity_from_checks p) 0 p.entities six.0,
             each_has (procedure_checks p) (ProcedureHolds p) (procedure_from_checks p) 0 p.procedures five.0,
             each_has (return_checks p) (ReturnsHold p) (returns_from_checks p) 0 p.returns four.0,
@@ -270,15 +270,15 @@ kinds_pass_at_each_place p =
             λ b block is. block_holds p b block two.1 is,
           ),
       λ h.
-          hold_together (numbered (entity_checks p) 0 p.entities) (procedure_and_later_checks p)
+          hold_together (checks_by_number (entity_checks p) 0 p.entities) (procedure_and_later_checks p)
           (from_each (entity_checks p) (EntityHolds p) (checks_from_entity p) 0 p.entities h.0)
-          (hold_together (numbered (procedure_checks p) 0 p.procedures) (return_and_later_checks p)
+          (hold_together (checks_by_number (procedure_checks p) 0 p.procedures) (return_and_later_checks p)
           (from_each (procedure_checks p) (ProcedureHolds p) (checks_from_procedure p) 0 p.procedures h.1)
-          (hold_together (numbered (return_checks p) 0 p.returns) (row_and_later_checks p)
+          (hold_together (checks_by_number (return_checks p) 0 p.returns) (row_and_later_checks p)
           (from_each (return_checks p) (ReturnsHold p) (checks_from_returns p) 0 p.returns h.2)
-          (hold_together (numbered of_rows 1 p.states) (chain_and_block_checks p)
+          (hold_together (checks_by_number of_rows 1 p.states) (chain_and_block_checks p)
           (from_each of_rows (λ row. IfSome row (RowHolds p)) (λ b. checks_from_row p (places.Block b)) 1 p.states h.3)
-          (hold_together (numbered (chain_checks p) 0 p.entities) (numbered (block_checks p) 1 p.blocks)
+          (hold_together (checks_by_number (chain_checks p) 0 p.entities) (checks_by_number (block_checks p) 1 p.blocks)
           (all_hold (chain_checks p) 0 p.entities (λ i entity is. at_number (chain_checks p) entity (omega arith) (checks_from_chain p i entity (h.4 i entity is))))
           (all_hold (block_checks p) 1 p.blocks (λ i block is. at_number (block_checks p) block (omega arith) (checks_from_block p (suc i) block (h.5 (suc i) block is)))))))),
     )

@@ -11,7 +11,7 @@ use Rattle.gw_rules.specs.declared.ways.Who.{Who}
 use Rattle.gw_rules.specs.declared.ways.Who.TheVariants.{Itself, Copies}
 use Rattle.gw_rules.specs.declared.ways.Exit.{Exit}
 use Rattle.gw_rules.specs.Exits.{leads_to, exits, returns_to}
-use Rattle.gw_operands.specs.Sources.{evaluated}
+use Rattle.gw_operands.specs.Sources.{evaluation_operands}
 use Rattle.gw_rules.specs.FlowCodes as codes
 use Rattle.gw_rules.specs.Entries.{lists, with_number, without_number}
 use Rattle.gw_rules.specs.Rows.{Row, ParamKind, Num, Ret, kind_of, is_number, is_return, return_blocks, units_of, with_parameter, with_facility, without_facility, with_units, kind_fits, Fits}
@@ -229,7 +229,7 @@ fitting_states_pass p table b block state row isnt h pass =
     let own = All-back Holds (value_rules p block row) (own_rules p block row) pass.each_rule in
     record {
       each_rule = All-append Holds (value_rules p block state) (own_rules p block state)
-          (by_numbers (parameters_read p (evaluated p.entities block)) state row h (All-front Holds (value_rules p block row) (own_rules p block row) pass.each_rule))
+          (by_numbers (parameters_read p (evaluation_operands p.entities block)) state row h (All-front Holds (value_rules p block row) (own_rules p block row) pass.each_rule))
           (like.rules_hold isnt own);
       each_edge = All-append (Arrives table) (edges_from b block state) (chain_edges table block state)
           (block_fits table p b block state row h like.after_fits own (All-front (Arrives table) (edges_from b block row) (chain_edges table block row) pass.each_edge))

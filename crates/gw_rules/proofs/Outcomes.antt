@@ -12,7 +12,7 @@ use Rattle.gw_operands.specs.declared.ends.PlusEnd.{PlusEnd}
 use Rattle.gw_operands.specs.Environment.{Environment}
 use Rattle.gw_operands.specs.Code.{procedure_at}
 use Rattle.gw_rules.specs.PlusChecks.{Heights}
-use Rattle.gw_operands.specs.Meaning.{Frame, Next, Goes, Calls, Returns, Ends, Stuck, pushed, next, opening, Derives, returns, ends, goes, call_ends, call_gives}
+use Rattle.gw_operands.specs.Meaning.{Frame, Next, Goes, Calls, Returns, Ends, Stuck, push_value, next, opening_frame, Derives, returns, ends, goes, call_ends, call_gives}
 use Rattle.gw_rules.specs.PlusLaws.{HasSet}
 use Rattle.gw_rules.proofs.Potential.{cost_drop}
 use Rattle.gw_rules.proofs.PlusSteps.{Fine, Ready, left, Answered, Well, next_well_typed}
@@ -22,12 +22,12 @@ use Rattle.gw_rules.proofs.PlusSteps.{Fine, Ready, left, Answered, Well, next_we
 -- what a derivation is above that of a call: the call ended the evaluation, or its value came onto the stack
 abbrev pub Continues : (p : Parts) (env : Environment) → ℕ → (ℤ → ℤ) → Frame → ℕ → ℕ → Result ℤ PlusEnd → Result ℤ PlusEnd → Type 0
 Continues p env n finish g count m (Err e) r = (count ≡ suc m) × (r ≡ Err e)
-Continues p env n finish g count m (Ok v) r = (h : Frame) × (k : ℕ) × (pushed (finish v) g ≡ Goes h) × Derives p env n h k r × (count ≡ suc (m + k))
+Continues p env n finish g count m (Ok v) r = (h : Frame) × (k : ℕ) × (push_value (finish v) g ≡ Goes h) × Derives p env n h k r × (count ≡ suc (m + k))
 
 -- what a derivation is, by what its first instruction does
 abbrev pub Unrolled : (p : Parts) (env : Environment) → ℕ → Next → ℕ → Result ℤ PlusEnd → Type 0
 Unrolled p env n (Goes g) count r = (k : ℕ) × Derives p env n g k r × (count ≡ suc k)
-Unrolled p env n (Calls q arguments finish g) count r = (m : ℕ) × (a : Result ℤ PlusEnd) × Derives p env q (opening (procedure_at p q) arguments) m a × Continues p env n finish g count m a r
+Unrolled p env n (Calls q arguments finish g) count r = (m : ℕ) × (a : Result ℤ PlusEnd) × Derives p env q (opening_frame (procedure_at p q) arguments) m a × Continues p env n finish g count m a r
 Unrolled p env n (Returns v) count r = (count ≡ 1) × (r ≡ Ok v)
 Unrolled p env n (Ends e) count r = (count ≡ 1) × (r ≡ Err e)
 Unrolled p env n Stuck count r = ⊥
@@ -50,12 +50,12 @@ one_outcome p env n f k m r s (goes {g = g} {k = j} is c) d =
     (omega (arith, rest.0, u.2), rest.1)
 one_outcome p env n f k m r s (call_ends {q = q} {g = g} {arguments = arguments} {finish = finish} {m = j} {e = e} is c) d =
     let u = subst (λ x. Unrolled p env n x m s) is (unroll d) in
-    let call = one_outcome p env q (opening (procedure_at p q) arguments) j u.0 (Err e) u.1 c u.2 in
+    let call = one_outcome p env q (opening_frame (procedure_at p q) arguments) j u.0 (Err e) u.1 c u.2 in
     let after = subst (λ x. Continues p env n finish g m u.0 x s) (sym call.1) u.3 in
     (omega (arith, call.0, after.0), sym after.1)
 one_outcome p env n f k m r s (call_gives {q = q} {g = g} {h = h} {arguments = arguments} {finish = finish} {m = j} {k = i} {v = v} is c push c2) d =
     let u = subst (λ x. Unrolled p env n x m s) is (unroll d) in
-    let call = one_outcome p env q (opening (procedure_at p q) arguments) j u.0 (Ok v) u.1 c u.2 in
+    let call = one_outcome p env q (opening_frame (procedure_at p q) arguments) j u.0 (Ok v) u.1 c u.2 in
     let after = subst (λ x. Continues p env n finish g m u.0 x s) (sym call.1) u.3 in
     let same : h ≡ after.0 = (let e : Goes h ≡ Goes after.0 = sym push ∙ after.2 in cc) in
     let rest = one_outcome p env n h i after.1 r s c2 (subst (λ x. Derives p env n x after.1 s) (sym same) after.3) in
@@ -72,7 +72,7 @@ pub record Derived (p : Parts) (env : Environment) (n : ℕ) (f : Frame) (most :
 
 -- a procedure has an outcome within its cost wherever it may begin
 abbrev pub Works : Parts → Environment → List ℕ → ℕ → Procedure → Type 0
-Works p env costs q called = (arguments : List ℤ) → procedure_at p q ≡ Some called → length arguments ≡ called.arguments → HasSet env called.needs → Derived p env q (opening (Some called) arguments) (at 0 costs q)
+Works p env costs q called = (arguments : List ℤ) → procedure_at p q ≡ Some called → length arguments ≡ called.arguments → HasSet env called.needs → Derived p env q (opening_frame (Some called) arguments) (at 0 costs q)
 
 module _ (p : Parts) (env : Environment) (n : ℕ) (pr : Procedure) (heights : Heights) (costs : List ℕ) where
   -- an activation that stands as the heights say has an outcome within what is left
@@ -83,7 +83,7 @@ module _ (p : Parts) (env : Environment) (n : ℕ) (pr : Procedure) (heights : H
   abbrev RunsBelow : Frame → Type 0
   RunsBelow f = (h : Frame) → Ready pr heights h → left p env n pr heights costs h + 1 ≤ left p env n pr heights costs f → Runs h
 
-  answered : (f g : Frame) (q m : ℕ) (arguments : List ℤ) (finish : ℤ → ℤ) (a : Result ℤ PlusEnd) → next p env n f ≡ Calls q arguments finish g → Derives p env q (opening (procedure_at p q) arguments) m a → m ≤ at 0 costs q → ((v : ℤ) → Answered p env n pr heights costs f g q v) → RunsBelow f → 1 + at 0 costs q ≤ left p env n pr heights costs f → Runs f
+  answered : (f g : Frame) (q m : ℕ) (arguments : List ℤ) (finish : ℤ → ℤ) (a : Result ℤ PlusEnd) → next p env n f ≡ Calls q arguments finish g → Derives p env q (opening_frame (procedure_at p q) arguments) m a → m ≤ at 0 costs q → ((v : ℤ) → Answered p env n pr heights costs f g q v) → RunsBelow f → 1 + at 0 costs q ≤ left p env n pr heights costs f → Runs f
   answered f g q m arguments finish (Err e) is d within goes_on below most = record { count = suc m; outcome = Err e; derived = call_ends is d; within = omega arith }
   answered f g q m arguments finish (Ok v) is d within goes_on below most =
       let a = goes_on (finish v) in
@@ -96,7 +96,7 @@ module _ (p : Parts) (env : Environment) (n : ℕ) (pr : Procedure) (heights : H
       record { count = suc rest.count; outcome = rest.outcome; derived = goes is rest.derived; within = omega (arith, rest.within, well.1) }
   follow lower f (Calls q arguments finish g) is well some below =
       let d = lower q well.procedure well.lower arguments well.there well.count well.needs in
-      let call = subst (λ x. Derives p env q (opening x arguments) d.count d.outcome) (sym well.there) d.derived in
+      let call = subst (λ x. Derives p env q (opening_frame x arguments) d.count d.outcome) (sym well.there) d.derived in
       answered f g q d.count arguments finish d.outcome is call d.within well.answered below (omega (arith, (well.answered (pos 0)).paid))
   follow lower f (Returns v) is well some below = record { count = 1; outcome = Ok v; derived = returns is; within = some }
   follow lower f (Ends e) is well some below = record { count = 1; outcome = Err e; derived = ends is; within = some }

@@ -9,7 +9,7 @@ use Rattle.gw_blocks.specs.declared.parts.Loop.{Loop}
 use Rattle.gw_blocks.specs.declared.parts.Block.{Block}
 use Rattle.gw_blocks.specs.declared.parts.Block.TheVariants as blocks
 use Rattle.gw_object.specs.declared.parts.Parts.{Parts}
-use Rattle.gw_operands.specs.Sources.{evaluated}
+use Rattle.gw_operands.specs.Sources.{evaluation_operands}
 use Rattle.gw_operands.specs.Code.{parameters_asked, is_among}
 use Rattle.gw_rules.specs.FlowCodes as codes
 use Rattle.gw_rules.specs.Entries.{with_number}
@@ -125,20 +125,20 @@ module _ (p : Parts) (table : Table) (b : ℕ) where
   own_rules_hold block row h = All-back Holds (value_rules p block row) (own_rules p block row) h.each_rule
 
   -- each parameter that an operand asks for which is evaluated there is sure to hold a number
-  each_is_number : (block : Block) (row : Row) → MayPass p table b block row → All (λ (o : Operand). All (IsNumber row) (parameters_asked p o)) (evaluated p.entities block)
+  each_is_number : (block : Block) (row : Row) → MayPass p table b block row → All (λ (o : Operand). All (IsNumber row) (parameters_asked p o)) (evaluation_operands p.entities block)
   each_is_number block row h =
-      let os = evaluated p.entities block in
+      let os = evaluation_operands p.entities block in
       let each = by_each row (parameters_read p os) (All-front Holds (value_rules p block row) (own_rules p block row) h.each_rule) in
       by_operand row p os (in_any_order row [] (flat_map (parameters_asked p) os) each).1
 
   -- the same of a parameter that is among them
   pub values_are_numbers : (block : Block) (row : Row) → MayPass p table b block row →
-      All (λ (o : Operand). (q : ℕ) → is_among (parameters_asked p o) q ≡ true → kind_of row q ≡ Some Num) (evaluated p.entities block)
-  values_are_numbers block row h i d within = of_one row (parameters_asked p (get_or (evaluated p.entities block) i d)) (each_is_number block row h i d within)
+      All (λ (o : Operand). (q : ℕ) → is_among (parameters_asked p o) q ≡ true → kind_of row q ≡ Some Num) (evaluation_operands p.entities block)
+  values_are_numbers block row h i d within = of_one row (parameters_asked p (get_or (evaluation_operands p.entities block) i d)) (each_is_number block row h i d within)
 
   -- where no parameter is known to be set, as at a GENERATE, those operands ask for none
-  pub asks_for_none : (block : Block) (row : Row) → MayPass p table b block row → ((q : ℕ) → kind_of row q ≡ None) → All (λ (o : Operand). parameters_asked p o ≡ []) (evaluated p.entities block)
-  asks_for_none block row h none i d within = no_numbers row (parameters_asked p (get_or (evaluated p.entities block) i d)) none (each_is_number block row h i d within)
+  pub asks_for_none : (block : Block) (row : Row) → MayPass p table b block row → ((q : ℕ) → kind_of row q ≡ None) → All (λ (o : Operand). parameters_asked p o ≡ []) (evaluation_operands p.entities block)
+  asks_for_none block row h none i d within = no_numbers row (parameters_asked p (get_or (evaluation_operands p.entities block) i d)) none (each_is_number block row h i d within)
 
   -- what a LOOP counts down is sure to be a number
   pub loop_is_number : (l : Loop) (row : Row) → MayPass p table b (blocks.Loop l) row → kind_of row l.parameter ≡ Some Num

@@ -26,7 +26,7 @@ use Rattle.gw_operands.specs.Environment.{Environment, attribute_value}
 use Rattle.gw_operands.specs.Code.{procedure_at, arguments_of, needs_of, most_values, takes, targets, leads_well, called_in, calls_lower, asks_for, is_among, cost_of_called, cost_of_instruction, cost_of_body}
 use Rattle.gw_operands.specs.Results.{value_by_operand}
 use Rattle.gw_rules.specs.PlusChecks.{Heights, height_after}
-use Rattle.gw_operands.specs.Meaning.{taken_at, take_once, Frame, Next, Goes, Calls, Returns, Ends, Stuck, on, pushed, popped, calculated, calls_with, reads_source, act, next, opening}
+use Rattle.gw_operands.specs.Meaning.{taken_at, take_once, Frame, Next, Goes, Calls, Returns, Ends, Stuck, on, push_value, pop_value, calculate, calls_with, reads_source, act, next, opening_frame}
 use Rattle.gw_rules.specs.PlusLaws.{HasSet, CodeHolds}
 use Rattle.gw_rules.proofs.Potential.{left_turns, potential, cost_drop, cost_later, turn_taken}
 use Rattle.gw_rules.proofs.PlusReading.{MayRead, may_read}
@@ -81,17 +81,17 @@ pub record Ready (pr : Procedure) (heights : Heights) (f : Frame) : Type 0 where
   pub locals : pr.locals ≤ length f.locals
 
 -- where an activation of a procedure begins, it stands so
-pub opened_stands : (p : Parts) (n : ℕ) (pr : Procedure) (arguments : List ℤ) (s : Sound p n pr) → Ready pr s.heights (opening (Some pr) arguments)
+pub opened_stands : (p : Parts) (n : ℕ) (pr : Procedure) (arguments : List ℤ) (s : Sound p n pr) → Ready pr s.heights (opening_frame (Some pr) arguments)
 opened_stands p n pr arguments s =
     let zeros = replicate (pr.locals - length arguments) (pos 0) in
     record { height = s.start; inside = s.some; locals = omega (arith, length-append arguments zeros, length-replicate (pr.locals - length arguments) (pos 0)) }
 
 -- so does one whose procedure is there
-pub opened_ready : (p : Parts) (n : ℕ) (pr : Procedure) (arguments : List ℤ) → CodeHolds p → procedure_at p n ≡ Some pr → length arguments ≡ pr.arguments → (s : Sound p n pr) → Ready pr s.heights (opening (Some pr) arguments)
+pub opened_ready : (p : Parts) (n : ℕ) (pr : Procedure) (arguments : List ℤ) → CodeHolds p → procedure_at p n ≡ Some pr → length arguments ≡ pr.arguments → (s : Sound p n pr) → Ready pr s.heights (opening_frame (Some pr) arguments)
 opened_ready p n pr arguments holds there count s = opened_stands p n pr arguments s
 
 -- a stack that isn't empty gives its top
-popped_any : (P : Next → Type 0) (stack : List ℤ) (go_on : ℤ → List ℤ → Next) → 0 < length stack → ((v : ℤ) (rest : List ℤ) → length rest + 1 ≡ length stack → P (go_on v rest)) → P (popped stack go_on)
+popped_any : (P : Next → Type 0) (stack : List ℤ) (go_on : ℤ → List ℤ → Next) → 0 < length stack → ((v : ℤ) (rest : List ℤ) → length rest + 1 ≡ length stack → P (go_on v rest)) → P (pop_value stack go_on)
 popped_any P stack go_on some each =
     let within : length stack - 1 < length stack = omega arith in
     let top = slice_get-get_or stack (length stack - 1) (pos 0) within in
@@ -105,7 +105,7 @@ module _ (p : Parts) (env : Environment) (n : ℕ) (pr : Procedure) (heights : H
   -- where a called procedure came to this value, the activation goes on, and what is left has paid for the call
   pub record Answered (f g : Frame) (q : ℕ) (v : ℤ) : Type 0 where
     pub frame : Frame
-    pub is : pushed v g ≡ Goes frame
+    pub is : push_value v g ≡ Goes frame
     pub ready : Ready pr heights frame
     pub paid : left frame + 1 + at 0 costs q ≤ left f
 
@@ -137,10 +137,10 @@ module _ (p : Parts) (env : Environment) (n : ℕ) (pr : Procedure) (heights : H
   with_value : (f g : Frame) (cost : ℕ) (v : ℤ) → Awaits f g cost → Ready pr heights (record g { stack = g.stack ++ v ∷ [] })
   with_value f g cost v w = record { height = w.height ∙ ap Some (sym (length-append g.stack (v ∷ []))); inside = w.inside; locals = w.locals }
 
-  push_well : (f g : Frame) (v : ℤ) → Awaits f g 0 → Well f (pushed v g)
+  push_well : (f g : Frame) (v : ℤ) → Awaits f g 0 → Well f (push_value v g)
   push_well f g v w = if_lt (Well f) (length g.stack) most_values _ _ w.room (with_value f g 0 v w, omega (arith, w.paid))
 
-  calculated_well : (f g : Frame) (r : Result ℤ NumFault) → Awaits f g 0 → Well f (calculated r g)
+  calculated_well : (f g : Frame) (r : Result ℤ NumFault) → Awaits f g 0 → Well f (calculate r g)
   calculated_well f g (Ok v) w = push_well f g v w
   calculated_well f g (Err fault) w = tt
 

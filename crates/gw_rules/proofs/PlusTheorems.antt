@@ -14,7 +14,7 @@ use Rattle.gw_operands.specs.declared.ends.PlusEnd.{PlusEnd}
 use Rattle.gw_operands.specs.Environment.{Environment}
 use Rattle.gw_operands.specs.Code.{procedure_at, costs_of}
 use Rattle.gw_rules.specs.PlusChecks.{PlusPasses}
-use Rattle.gw_operands.specs.Meaning.{Derives, Evaluates, opening}
+use Rattle.gw_operands.specs.Meaning.{Derives, Evaluates, opening_frame}
 use Rattle.gw_operands.specs.Outcome.{outcome_of}
 use Rattle.gw_rules.specs.PlusLaws.{CodeHolds, MayBegin, OneOutcome, HasOutcome, CostBounds, OutcomesAreEvaluated}
 use Rattle.gw_rules.proofs.Potential.{opened_left}
@@ -46,7 +46,7 @@ module _ (p : Parts) (env : Environment) (kinds : KindsPass p) (passes : PlusPas
   works (suc n) q called lower arguments there count set =
       let c = checked p passes q called there in
       let s = c.sound in
-      let f = opening (Some called) arguments in
+      let f = opening_frame (Some called) arguments in
       let ready = opened_stands p q called arguments s in
       let each = (kinds_pass_at_each_place p).0 kinds in
       let d = run p env q called s.heights (costs_of p) there (of_procedure p (ProcedureHolds p) q called there each.1) each.0 s.each set (λ x y below. works n x y (omega arith)) (left p env q called s.heights (costs_of p) f) f ready (omega arith) in
@@ -60,7 +60,7 @@ has_outcome_law p env n pr arguments fits kinds passes may =
 pub cost_bounds_law : CostBounds
 cost_bounds_law p env n pr arguments k r fits kinds passes may derived =
     let d = works p env kinds passes (suc n) n pr (omega arith) arguments may.there may.arguments may.needs in
-    let same = one_outcome p env n (opening (Some pr) arguments) d.count k d.outcome r d.derived derived in
+    let same = one_outcome p env n (opening_frame (Some pr) arguments) d.count k d.outcome r d.derived derived in
     omega (arith, same.0, d.within)
 
 -- a procedure without arguments comes to its outcome where the parameters that it needs are set, whether the object has a spelling or not
@@ -68,8 +68,8 @@ pub comes_to : (p : Parts) (env : Environment) (n : ℕ) (pr : Procedure) → Ki
 unfolding outcome_of
 comes_to p env n pr kinds passes may =
     let d = works p env kinds passes (suc n) n pr (omega arith) [] may.there may.arguments may.needs in
-    let derived = subst (λ (o : Option Procedure). Derives p env n (opening o []) d.count d.outcome) (sym may.there) d.derived in
-    (d.outcome, derived_is_answered p env (at 0 (costs_of p) n) n (opening (procedure_at p n) []) d.count d.outcome derived d.within, (d.count, derived))
+    let derived = subst (λ (o : Option Procedure). Derives p env n (opening_frame o []) d.count d.outcome) (sym may.there) d.derived in
+    (d.outcome, derived_is_answered p env (at 0 (costs_of p) n) n (opening_frame (procedure_at p n) []) d.count d.outcome derived d.within, (d.count, derived))
 
 pub outcomes_are_evaluated_law : OutcomesAreEvaluated
 outcomes_are_evaluated_law p env n pr fits kinds passes may = comes_to p env n pr kinds passes may

@@ -21,7 +21,7 @@ use Rattle.gw_object.specs.declared.parts.Entity.{Entity}
 use Rattle.gw_object.specs.declared.parts.Parts.{Parts}
 use Rattle.gw_rules.specs.declared.entities.EntityKind.{EntityKind}
 use Rattle.gw_rules.specs.declared.entities.EntityKind.TheVariants.{Variable, BooleanVariable, Function}
-use Rattle.gw_operands.specs.Sources.{kind_at, operand_of, operand_at, values, evaluated, if_function, if_variable, argument_in, call_in, source_of, as_operand, procedure_named, is_function_value, is_drawn}
+use Rattle.gw_operands.specs.Sources.{kind_at, operand_of, operand_at, values, evaluation_operands, if_function, if_variable, argument_in, call_in, source_of, as_operand, procedure_named, is_function_value, is_drawn}
 use Rattle.gw_rules.specs.Kinds.{serves_as, has_plain_argument}
 use Rattle.gw_rules.specs.KindsLaws.{TakesNoArguments, OperandHolds, EntityHolds, InstructionHolds, BlockHolds}
 use Rattle.gw_rules.proofs.EachNamed.{each_names, entities_of_values, blocks_of_values}
@@ -168,7 +168,7 @@ module _ (p : Parts) (each : All (EntityHolds p) p.entities) where
   -- BLOCKS
 
   -- what is evaluated when a transaction enters a block names what is there
-  pub evaluated_holds : (b : ℕ) (block : Block) → BlockHolds p b block → All (OperandHolds p) (evaluated p.entities block)
+  pub evaluated_holds : (b : ℕ) (block : Block) → BlockHolds p b block → All (OperandHolds p) (evaluation_operands p.entities block)
   evaluated_holds b (blocks.Tabulate t) h = of_option (operand_at p.entities t) (operand_at_holds p p.entities t each)
     where
       of_option : (o : Option Operand) → IfSome o (OperandHolds p) → All (OperandHolds p) (option_to_list o)

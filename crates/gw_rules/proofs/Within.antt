@@ -13,7 +13,7 @@ use Rattle.gw_operands.specs.declared.ends.PlusEnd.{PlusEnd}
 use Rattle.gw_operands.specs.Environment.{Environment, ReadTheSame}
 use Rattle.gw_operands.specs.Code.{procedure_at, costs_of}
 use Rattle.gw_operands.specs.Results.{value_by_operand}
-use Rattle.gw_operands.specs.Meaning.{Frame, Next, Goes, Calls, Returns, Ends, Stuck, on, pushed, given, reads_source, act, next, opening, Derives, returns, ends, goes, call_ends, call_gives}
+use Rattle.gw_operands.specs.Meaning.{Frame, Next, Goes, Calls, Returns, Ends, Stuck, on, push_value, or_stuck, reads_source, act, next, opening_frame, Derives, returns, ends, goes, call_ends, call_gives}
 use Rattle.gw_operands.specs.Outcome.{Answer, if_going, once_called, answer_by, answer_within, outcome_of}
 use Rattle.gw_rules.specs.PlusLaws.{AnswersAreDerived, DerivedIsAnswered, OutcomesDependOnWhatIsKept}
 
@@ -31,20 +31,20 @@ module _ (p : Parts) (env : Environment) (onward : ℕ → Frame → Answer) (de
   pushed_is_derived n (Ends e) r is = absurd (cc)
   pushed_is_derived n Stuck r is = absurd (cc)
 
-  call_is_derived : (n q : ℕ) (f g : Frame) (arguments : List ℤ) (finish : ℤ → ℤ) (r : Result ℤ PlusEnd) (called : Answer) → next p env n f ≡ Calls q arguments finish g → onward q (opening (procedure_at p q) arguments) ≡ called → option_and_then (once_called (onward n) finish g) called ≡ Some r → IsDerived p env n f r
+  call_is_derived : (n q : ℕ) (f g : Frame) (arguments : List ℤ) (finish : ℤ → ℤ) (r : Result ℤ PlusEnd) (called : Answer) → next p env n f ≡ Calls q arguments finish g → onward q (opening_frame (procedure_at p q) arguments) ≡ called → option_and_then (once_called (onward n) finish g) called ≡ Some r → IsDerived p env n f r
   call_is_derived n q f g arguments finish r None next_is called_is is = absurd (cc)
   call_is_derived n q f g arguments finish r (Some (Err e)) next_is called_is is =
-      let call = derived q (opening (procedure_at p q) arguments) (Err e) called_is in
+      let call = derived q (opening_frame (procedure_at p q) arguments) (Err e) called_is in
       let same : Err e ≡ r = cc in
       (suc call.0, subst (Derives p env n f (suc call.0)) same (call_ends next_is call.1))
   call_is_derived n q f g arguments finish r (Some (Ok v)) next_is called_is is =
-      let call = derived q (opening (procedure_at p q) arguments) (Ok v) called_is in
-      let after = pushed_is_derived n (pushed (finish v) g) r is in
+      let call = derived q (opening_frame (procedure_at p q) arguments) (Ok v) called_is in
+      let after = pushed_is_derived n (push_value (finish v) g) r is in
       (suc (call.0 + after.2.0), call_gives next_is call.1 after.1 after.2.1)
 
   next_is_derived : (n : ℕ) (f : Frame) (x : Next) (r : Result ℤ PlusEnd) → next p env n f ≡ x → answer_by p onward n x ≡ Some r → IsDerived p env n f r
   next_is_derived n f (Goes g) r next_is is = let rest = derived n g r is in (suc rest.0, goes next_is rest.1)
-  next_is_derived n f (Calls q arguments finish g) r next_is is = call_is_derived n q f g arguments finish r (onward q (opening (procedure_at p q) arguments)) next_is refl is
+  next_is_derived n f (Calls q arguments finish g) r next_is is = call_is_derived n q f g arguments finish r (onward q (opening_frame (procedure_at p q) arguments)) next_is refl is
   next_is_derived n f (Returns v) r next_is is = let same : Ok v ≡ r = cc in (1, subst (Derives p env n f 1) same (returns next_is))
   next_is_derived n f (Ends e) r next_is is = let same : Err e ≡ r = cc in (1, subst (Derives p env n f 1) same (ends next_is))
   next_is_derived n f Stuck r next_is is = absurd (cc)
@@ -70,26 +70,26 @@ derived_is_answered p env (suc most) n f k r (goes {g = g} {k = j} is d) le =
 derived_is_answered p env (suc most) n f k r (call_ends {q = q} {g = g} {arguments = arguments} {finish = finish} {m = m} {e = e} is d) le =
     let onward = answer_within p env most in
     ap (answer_by p onward n) is
-    ∙ ap (option_and_then (once_called (onward n) finish g)) (derived_is_answered p env most q (opening (procedure_at p q) arguments) m (Err e) d (omega arith))
+    ∙ ap (option_and_then (once_called (onward n) finish g)) (derived_is_answered p env most q (opening_frame (procedure_at p q) arguments) m (Err e) d (omega arith))
 derived_is_answered p env (suc most) n f k r (call_gives {q = q} {g = g} {h = h} {arguments = arguments} {finish = finish} {m = m} {k = j} {v = v} is d push c) le =
     let onward = answer_within p env most in
     ap (answer_by p onward n) is
-    ∙ ap (option_and_then (once_called (onward n) finish g)) (derived_is_answered p env most q (opening (procedure_at p q) arguments) m (Ok v) d (omega arith))
+    ∙ ap (option_and_then (once_called (onward n) finish g)) (derived_is_answered p env most q (opening_frame (procedure_at p q) arguments) m (Ok v) d (omega arith))
     ∙ ap (if_going (onward n)) push
     ∙ derived_is_answered p env most n h j r c (omega arith)
 
 -- ENVIRONMENTS IN WHICH THE SAME IS READ
 
-given_same : {X : Type 0} (o : Option X) (f g : X → Next) → ((x : X) → f x ≡ g x) → given o f ≡ given o g
+given_same : {X : Type 0} (o : Option X) (f g : X → Next) → ((x : X) → f x ≡ g x) → or_stuck o f ≡ or_stuck o g
 given_same None f g same = refl
 given_same (Some x) f g same = same x
 
 module _ (p : Parts) (a b : Environment) (same : ReadTheSame a b) where
   source_same : (source : Operand) (finish : ℤ → ℤ) (f : Frame) → reads_source a source finish f ≡ reads_source b source finish f
   source_same (Constant z) finish f = refl
-  source_same (Parameter x) finish f = ap (λ (o : Option ℤ). given o (λ v. pushed (finish v) f)) (same.kept (Parameter x))
-  source_same (Attribute x) finish f = ap (λ (o : Option ℤ). given o (λ v. pushed (finish v) f)) (same.kept (Attribute x))
-  source_same (OfEntity x) finish f = ap (λ (o : Option ℤ). given o (λ v. pushed (finish v) f)) (same.kept (OfEntity x))
+  source_same (Parameter x) finish f = ap (λ (o : Option ℤ). or_stuck o (λ v. push_value (finish v) f)) (same.kept (Parameter x))
+  source_same (Attribute x) finish f = ap (λ (o : Option ℤ). or_stuck o (λ v. push_value (finish v) f)) (same.kept (Attribute x))
+  source_same (OfEntity x) finish f = ap (λ (o : Option ℤ). or_stuck o (λ v. push_value (finish v) f)) (same.kept (OfEntity x))
   source_same (Random j) finish f = refl
   source_same (ValueOf q) finish f = refl
 
@@ -123,13 +123,13 @@ module _ (p : Parts) (a b : Environment) (same : ReadTheSame a b) where
   called_same : (onward others : Frame → Answer) → ((f : Frame) → onward f ≡ others f) → (finish : ℤ → ℤ) (rest : Frame) (called : Answer) → option_and_then (once_called onward finish rest) called ≡ option_and_then (once_called others finish rest) called
   called_same onward others alike finish rest None = refl
   called_same onward others alike finish rest (Some (Err e)) = refl
-  called_same onward others alike finish rest (Some (Ok v)) = going_same onward others alike (pushed (finish v) rest)
+  called_same onward others alike finish rest (Some (Ok v)) = going_same onward others alike (push_value (finish v) rest)
 
   by_same : (onward others : ℕ → Frame → Answer) → ((n : ℕ) (f : Frame) → onward n f ≡ others n f) → (n : ℕ) (x : Next) → answer_by p onward n x ≡ answer_by p others n x
   by_same onward others alike n (Goes f) = alike n f
   by_same onward others alike n (Calls q arguments finish rest) =
-      ap (option_and_then (once_called (onward n) finish rest)) (alike q (opening (procedure_at p q) arguments))
-      ∙ called_same (onward n) (others n) (alike n) finish rest (others q (opening (procedure_at p q) arguments))
+      ap (option_and_then (once_called (onward n) finish rest)) (alike q (opening_frame (procedure_at p q) arguments))
+      ∙ called_same (onward n) (others n) (alike n) finish rest (others q (opening_frame (procedure_at p q) arguments))
   by_same onward others alike n (Returns v) = refl
   by_same onward others alike n (Ends e) = refl
   by_same onward others alike n Stuck = refl
@@ -143,4 +143,4 @@ module _ (p : Parts) (a b : Environment) (same : ReadTheSame a b) where
 
 pub outcomes_depend_on_what_is_kept : OutcomesDependOnWhatIsKept
 unfolding outcome_of
-outcomes_depend_on_what_is_kept p a b n same = within_same p a b same (at 0 (costs_of p) n) n (opening (procedure_at p n) [])
+outcomes_depend_on_what_is_kept p a b n same = within_same p a b same (at 0 (costs_of p) n) n (opening_frame (procedure_at p n) [])

@@ -14,7 +14,7 @@ use Rattle.gw_rules.specs.declared.ways.Who.{Who}
 use Rattle.gw_rules.specs.declared.ways.Who.TheVariants.{Itself, Copies}
 use Rattle.gw_rules.specs.declared.ways.Exit.{Exit}
 use Rattle.gw_rules.specs.Exits.{leads_to, exits_with}
-use Rattle.gw_operands.specs.Sources.{kind_at, evaluated}
+use Rattle.gw_operands.specs.Sources.{kind_at, evaluation_operands}
 use Rattle.gw_rules.specs.Kinds.{is_generate}
 use Rattle.gw_operands.specs.Code.{parameters_asked}
 use Rattle.gw_rules.specs.declared.edges.Target.{Target}
@@ -64,7 +64,7 @@ parameters_read p os = in_order (flat_map (parameters_asked p) os)
 
 -- the first rule of each block: each parameter that the operands ask for which are evaluated there is set, to a number
 abbrev pub value_rules : Parts → Block → Row → List Rule
-value_rules p block state = flat_map (number_rules state) (parameters_read p (evaluated p.entities block))
+value_rules p block state = flat_map (number_rules state) (parameters_read p (evaluation_operands p.entities block))
 
 -- a parameter that is used as a return is set to a return
 abbrev pub return_rules : Row → ℕ → List Rule

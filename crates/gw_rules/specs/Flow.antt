@@ -8,7 +8,7 @@ use Rattle.gw_object.specs.declared.fault.Place.TheVariants as places
 use Rattle.gw_blocks.specs.declared.parts.Block.{Block}
 use Rattle.gw_object.specs.declared.parts.Entity.{Entity}
 use Rattle.gw_object.specs.declared.parts.Parts.{Parts}
-use Rattle.gw_rules.specs.Checks.{Check, check, first_broken, numbered, Finds}
+use Rattle.gw_rules.specs.Checks.{Check, check, first_broken, checks_by_number, Finds}
 use Rattle.gw_rules.specs.Kinds.{for_chain}
 use Rattle.gw_rules.specs.declared.edges.Target.{Target}
 use Rattle.gw_rules.specs.declared.edges.Target.TheVariants as targets
@@ -76,7 +76,7 @@ checks_at p table b block = checks_in p table b block (table (targets.Block b))
 
 -- every check of flow of an object and a table, in order
 unfoldable pub flow_checks : Parts → Table → List Check
-flow_checks p table = numbered (checks_at p table) 1 p.blocks
+flow_checks p table = checks_by_number (checks_at p table) 1 p.blocks
 
 -- flow holds of an object and a table: no check of it is broken
 abbrev pub FlowPasses : Parts → Table → Type 0

@@ -11,7 +11,7 @@ use Rattle.gw_operands.specs.declared.ends.PlusEnd.{PlusEnd}
 use Rattle.gw_operands.specs.Environment.{Environment, ReadTheSame}
 use Rattle.gw_operands.specs.Code.{procedure_at, is_among, costs_of}
 use Rattle.gw_rules.specs.PlusChecks.{PlusPasses}
-use Rattle.gw_operands.specs.Meaning.{Frame, Derives, Evaluates, opening}
+use Rattle.gw_operands.specs.Meaning.{Frame, Derives, Evaluates, opening_frame}
 use Rattle.gw_operands.specs.Outcome.{answer_within, outcome_of}
 
 -- these parameters are set
@@ -49,13 +49,13 @@ OutcomesDependOnWhatIsKept = (p : Parts) (a b : Environment) (n : ℕ) → ReadT
 abbrev pub HasOutcome : Type 0
 HasOutcome =
     (p : Parts) (env : Environment) (n : ℕ) (pr : Procedure) (arguments : List ℤ) → HasSpelling p → KindsPass p → PlusPasses p → MayBegin p env n pr arguments
-    → (k : ℕ) × (r : Result ℤ PlusEnd) × Derives p env n (opening (Some pr) arguments) k r
+    → (k : ℕ) × (r : Result ℤ PlusEnd) × Derives p env n (opening_frame (Some pr) arguments) k r
 
 -- and it comes to its outcome after at most as many instructions as its procedure costs
 abbrev pub CostBounds : Type 0
 CostBounds =
     (p : Parts) (env : Environment) (n : ℕ) (pr : Procedure) (arguments : List ℤ) (k : ℕ) (r : Result ℤ PlusEnd) → HasSpelling p → KindsPass p → PlusPasses p → MayBegin p env n pr arguments
-    → Derives p env n (opening (Some pr) arguments) k r → k ≤ at 0 (costs_of p) n
+    → Derives p env n (opening_frame (Some pr) arguments) k r → k ≤ at 0 (costs_of p) n
 
 -- so each procedure without arguments whose parameters are set has its one outcome
 abbrev pub OutcomesAreEvaluated : Type 0

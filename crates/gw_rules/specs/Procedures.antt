@@ -6,7 +6,7 @@ use Rattle.gw_code.specs.declared.parts.Procedure.{Procedure}
 use Rattle.gw_object.specs.declared.fault.Place.TheVariants as places
 use Rattle.gw_object.specs.declared.parts.Parts.{Parts}
 use Rattle.gw_rules.specs.declared.entities.Named.{Named}
-use Rattle.gw_rules.specs.Checks.{Check, check, numbered}
+use Rattle.gw_rules.specs.Checks.{Check, check, checks_by_number}
 use Rattle.gw_rules.specs.KindsCodes as codes
 use Rattle.gw_rules.specs.Kinds.{is_none_or, entity_of, block_of, is_no_other_kind, is_there, is_procedure, is_block}
 use Rattle.gw_operands.specs.Sources.{argument_in, as_operand, is_drawn}
@@ -50,4 +50,4 @@ instruction_checks p n locals k i =
 
 -- of the procedure n: its instructions, in order
 abbrev pub procedure_checks : Parts → ℕ → Procedure → List Check
-procedure_checks p n procedure = numbered (instruction_checks p n procedure.locals) 0 procedure.code
+procedure_checks p n procedure = checks_by_number (instruction_checks p n procedure.locals) 0 procedure.code

@@ -17,7 +17,7 @@ use Rattle.gw_rules.specs.declared.ways.Way.TheVariants.{Falls, Goes}
 use Rattle.gw_object.specs.declared.fault.Place.TheVariants as places
 use Rattle.gw_object.specs.declared.parts.Parts.{Parts}
 use Rattle.gw_object.specs.declared.parts.TableState.{TableState}
-use Rattle.gw_rules.specs.Checks.{Check, check, first_broken, numbered}
+use Rattle.gw_rules.specs.Checks.{Check, check, first_broken, checks_by_number}
 use Rattle.gw_rules.specs.Exits.{leads_to, takes_time, exits_with}
 use Rattle.gw_rules.specs.Kinds.{chain_place}
 use Rattle.gw_rules.specs.declared.ways.Who.{Who}
@@ -194,7 +194,7 @@ checks_at p b block = slope_checks p b (own_row p b) ++ (arrival_checks b block 
 
 -- every check of weights of an object, in order
 unfoldable pub weight_checks : Parts → List Check
-weight_checks p = numbered (checks_at p) 1 p.blocks
+weight_checks p = checks_by_number (checks_at p) 1 p.blocks
 
 -- weights pass: no check of them is broken
 abbrev pub WeightsPass : Parts → Type 0

@@ -11,14 +11,14 @@ use Rattle.gw_object.specs.declared.parts.Parts.{Parts}
 use Rattle.gw_operands.specs.Sources.{operand_at}
 use Rattle.gw_operands.specs.Values.{Evaluation, Value, Fails, Unset, ◌>>=◌ as ◌then◌, operand_value, one_operand, drawn_time, single_value}
 use Rattle.gw_transactions.specs.declared.Transaction.{Transaction}
-use Rattle.gw_step.specs.Outcome.{Outcome, Gives, EndsBy, HasNoCase, ◌>>=◌, evaluated}
+use Rattle.gw_step.specs.Outcome.{Outcome, Gives, EndsBy, HasNoCase, ◌>>=◌, evaluation_outcome}
 use Rattle.gw_step.specs.State.{State, with_streams}
 use Rattle.gw_step.specs.Times.{environment_of, moment_after, drawn_moment}
 use Rattle.gw_step.specs.Blocks.{leads, until, advance, assign, save, set_priority, plus, tabulate, then_placed, meets, act, effect}
 use Rattle.gw_step.specs.Changes.{enters_and_falls}
 
 -- what the one value of a block comes to
-one-value : {A B C : Type 0} (e : Evaluation A) (f : A → B) (g : B → Outcome C) → (evaluated (e then (λ a. Value (f a))) >>= g) ≡ (evaluated e >>= λ a. g (f a))
+one-value : {A B C : Type 0} (e : Evaluation A) (f : A → B) (g : B → Outcome C) → (evaluation_outcome (e then (λ a. Value (f a))) >>= g) ≡ (evaluation_outcome e >>= λ a. g (f a))
 one-value (Value a) f g = refl
 one-value (Fails end) f g = refl
 one-value Unset f g = refl
@@ -49,7 +49,7 @@ module _ (p : Parts) (n : ℕ) (t : Transaction) (s : State) where
       → act p n t (blocks.Tabulate e) s ≡ then_placed n (tabulate p.blocks n t e value (with_streams streams s))
   unfolding act effect
   act-tabulate e o value streams argument is =
-      ap (λ (x : Option Operand). evaluated (one_operand p (environment_of n t s) x s.streams) >>= λ read. meets p n t (blocks.Tabulate e) read.0 (with_streams read.1 s)) argument
+      ap (λ (x : Option Operand). evaluation_outcome (one_operand p (environment_of n t s) x s.streams) >>= λ read. meets p n t (blocks.Tabulate e) read.0 (with_streams read.1 s)) argument
       ∙ rw is refl
 
   -- an ADVANCE whose time was drawn
@@ -70,5 +70,5 @@ module _ (p : Parts) (n : ℕ) (t : Transaction) (s : State) where
   unfolding act effect
   act-advance time o is =
       one-value (drawn_time p (environment_of n t s) time s.streams) single_value (λ read. meets p n t (blocks.Advance time) read.0 (with_streams read.1 s))
-      ∙ resting (evaluated (drawn_time p (environment_of n t s) time s.streams))
+      ∙ resting (evaluation_outcome (drawn_time p (environment_of n t s) time s.streams))
       ∙ ap (λ x. x >>= advanced) is

@@ -10,9 +10,9 @@ use Rattle.gw_machine.specs.Configuration.{Configuration}
 use Rattle.gw_machine.specs.View.{state_of}
 use Rattle.gw_machine.proofs.Turning.{turned-found, turned-back}
 use Rattle.gw_step.specs.State.{State, with_streams}
-use Rattle.gw_step.specs.Turning.{choice_of, towards, turned, two_next}
+use Rattle.gw_step.specs.Turning.{choice_of, towards, turn_to, two_next}
 use Rattle.gw_scan.proofs.Visits.{active_in}
-use Rattle.gw_scan.specs.Trying.{HasTurned, active_back, turned_back, undone}
+use Rattle.gw_scan.specs.Trying.{HasTurned, active_back, turned_back, undo_from}
 use Rattle.gw_scan.specs.Visiting.{IsVisit}
 use Rattle.gw_scan.specs.declared.both.Before.{Before}
 use Rattle.gw_scan.specs.declared.visit.Visit.{Visit}
@@ -27,15 +27,15 @@ stays_at p t pair is = by (t.current == t.next) refl is
 
 module _ (n : ℕ) (t : Transaction) (to : ℕ) (s : State) (active : s.lists.active ≡ Some n) (found : attributes_at n s.transactions ≡ Some t) (stays : t.current ≡ t.next) where
   -- who has turned has both its next blocks again
-  back : active_back (turned n t to s) ≡ s
+  back : active_back (turn_to n t to s) ≡ s
   back =
-      ap (λ o. option_map_or (λ m. turned_back m (turned n t to s)) o (turned n t to s)) active
-      ∙ ap (λ o. option_map_or (λ u. turned n u u.current (turned n t to s)) o (turned n t to s)) (turned-found n t to s found)
-      ∙ ap (λ b. turned n (towards to t) b (turned n t to s)) stays
+      ap (λ o. option_map_or (λ m. turned_back m (turn_to n t to s)) o (turn_to n t to s)) active
+      ∙ ap (λ o. option_map_or (λ u. turn_to n u u.current (turn_to n t to s)) o (turn_to n t to s)) (turned-found n t to s found)
+      ∙ ap (λ b. turn_to n (towards to t) b (turn_to n t to s)) stays
       ∙ turned-back n t to s found
 
 -- what a turn did is undone
-pub turn-undone : (v : Visit) (pair : ℕ × ℕ) (to : ℕ) (before : Before) (m new : Configuration) → IsVisit v m → two_next v.verified.now v.transaction ≡ Some pair → before.turned ≡ true → before.streams ≡ m.streams → HasTurned v to m new → undone before (state_of new) ≡ state_of m
+pub turn-undone : (v : Visit) (pair : ℕ × ℕ) (to : ℕ) (before : Before) (m new : Configuration) → IsVisit v m → two_next v.verified.now v.transaction ≡ Some pair → before.turned ≡ true → before.streams ≡ m.streams → HasTurned v to m new → undo_from before (state_of new) ≡ state_of m
 turn-undone v pair to before m new is two turned_is streams h =
     ap (λ b. if b then with_streams before.streams (active_back (state_of new)) else state_of new) turned_is
     ∙ ap (λ (s : State). with_streams before.streams (active_back s)) (h.0).0

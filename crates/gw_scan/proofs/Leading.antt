@@ -8,7 +8,7 @@ use Rattle.gw_blocks.specs.declared.parts.Fraction.{Fraction}
 use Rattle.gw_rules.specs.declared.ways.Exit.{Exit}
 use Rattle.gw_rules.specs.Exits.{leads_to, falls_or_goes}
 use Rattle.gw_step.specs.State.{may_enter}
-use Rattle.gw_step.specs.Blocks.{led_by, chosen}
+use Rattle.gw_step.specs.Blocks.{led_by, choice_of}
 use Rattle.gw_step.specs.Asks.{MayLead, Leads}
 use Rattle.gw_step.proofs.AtBlock.{led_to}
 
@@ -35,7 +35,7 @@ module _ (bs : List Block) (b : ℕ) where
   led_by_leads (Some target) false falls goes = goes
 
   -- a TRANSFER by fraction leads to either block
-  pub chosen_leads : (f : Fraction) (drawn : ℤ) → Leads bs b (blocks.TransferByFraction f) → MayLead bs (chosen b f drawn)
+  pub chosen_leads : (f : Fraction) (drawn : ℤ) → Leads bs b (blocks.TransferByFraction f) → MayLead bs (choice_of b f drawn)
   chosen_leads f drawn leads = by_test (int_lt drawn (pos f.thousandths))
     where
       by_test : (less : Bool) → MayLead bs (if less then f.target else unwrap_or f.otherwise (b + 1))

@@ -5,7 +5,7 @@ use Rattle.gw_object.specs.Grammar.{HasSpelling}
 use Rattle.gw_object.specs.declared.parts.Parts.{Parts}
 use Rattle.gw_rules.specs.Accepted.{Checked}
 use Rattle.gw_step.specs.State.{State, delay_list, with_streams}
-use Rattle.gw_step.specs.Turning.{turned}
+use Rattle.gw_step.specs.Turning.{turn_to}
 use Rattle.gw_step.specs.Typing.{WellTyped}
 use Rattle.gw_step.specs.Numbers.{IsWithin, made_in}
 use Rattle.gw_step.specs.Operands.{BlocksFit}
@@ -29,12 +29,12 @@ turns_to_both : (p : Parts) (s : State) → Checked p → HasSpelling p → Well
 turns_to_both p s checked spelled typed n t pair active found two =
     let both = λ (streams : List ℕ). turns_keep_types p (with_streams streams s) n t pair checked (after_draws p s streams typed) active found two in (
       record {
-        values = λ streams. parameters_suffice p (turned n t pair.0 (with_streams streams s)) checked spelled (both streams).0;
-        served = λ streams. blocks_are_served p (turned n t pair.0 (with_streams streams s)) checked (both streams).0;
+        values = λ streams. parameters_suffice p (turn_to n t pair.0 (with_streams streams s)) checked spelled (both streams).0;
+        served = λ streams. blocks_are_served p (turn_to n t pair.0 (with_streams streams s)) checked (both streams).0;
       },
       record {
-        values = λ streams. parameters_suffice p (turned n t pair.1 (with_streams streams s)) checked spelled (both streams).1;
-        served = λ streams. blocks_are_served p (turned n t pair.1 (with_streams streams s)) checked (both streams).1;
+        values = λ streams. parameters_suffice p (turn_to n t pair.1 (with_streams streams s)) checked spelled (both streams).1;
+        served = λ streams. blocks_are_served p (turn_to n t pair.1 (with_streams streams s)) checked (both streams).1;
       },
     )
 

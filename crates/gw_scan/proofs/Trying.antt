@@ -12,7 +12,7 @@ use Rattle.gw_transactions.specs.declared.Transaction.{Transaction}
 use Rattle.gw_machine.specs.Configuration.{Configuration}
 use Rattle.gw_machine.specs.View.{state_of}
 use Rattle.gw_step.specs.Blocks.{act, meets}
-use Rattle.gw_step.specs.Outcome.{Outcome, Gives, EndsBy, HasNoCase, ◌>>=◌, case_of, evaluated}
+use Rattle.gw_step.specs.Outcome.{Outcome, Gives, EndsBy, HasNoCase, ◌>>=◌, case_of, evaluation_outcome}
 use Rattle.gw_step.specs.State.{State, with_streams}
 use Rattle.gw_step.specs.Step.{meets_one, refusal}
 use Rattle.gw_step.specs.Times.{environment_of}
@@ -36,7 +36,7 @@ let_by HasNoCase k otherwise = refl
 module _ (p : Parts) (n : ℕ) (t : Transaction) (block : Block) (s : State) where
   lets_enter : (otherwise : List ℕ → Outcome State) → (no_refusal p n t block s >>= (λ (answer : Bool × List ℕ). if answer.0 then otherwise answer.1 else act p n t block s)) ≡ act p n t block s
   unfolding act
-  lets_enter otherwise = let_by (evaluated (operands p (environment_of n t s) block s.streams)) (λ read. meets p n t block read.0 (with_streams read.1 s)) otherwise
+  lets_enter otherwise = let_by (evaluation_outcome (operands p (environment_of n t s) block s.streams)) (λ read. meets p n t block read.0 (with_streams read.1 s)) otherwise
 
   module _ (there : block_at p.blocks t.next ≡ Some block) where
     -- the next block is this one

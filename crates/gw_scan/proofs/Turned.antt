@@ -14,10 +14,10 @@ use Rattle.gw_step.specs.Asks.{IsServed}
 use Rattle.gw_step.specs.Numbers.{IsWithin, made_in}
 use Rattle.gw_step.specs.Operands.{MayStep}
 use Rattle.gw_step.specs.Outcome.{Outcome, Gives, ◌>>=◌}
-use Rattle.gw_step.specs.Placing.{placed}
+use Rattle.gw_step.specs.Placing.{place_by}
 use Rattle.gw_step.specs.declared.placement.Placement.TheVariants.{JoinsRetryList}
 use Rattle.gw_step.specs.State.{State, with_streams}
-use Rattle.gw_step.specs.Turning.{towards, turned}
+use Rattle.gw_step.specs.Turning.{towards, turn_to}
 use Rattle.gw_step.proofs.Attributes.{number_below}
 use Rattle.gw_step.proofs.Follows.{block_below}
 use Rattle.gw_step.proofs.Within.{within-turned, within-streams, mark_from}
@@ -45,12 +45,12 @@ next-within bs b P some = by (block_at bs b) refl some
 
 module _ (v : Visit) (to : ℕ) (m : Configuration) (may : MayTry v to m) where
   -- who has turned to a block may meet it
-  pub made-at : (new : Configuration) → state_of new ≡ turned v.tx.number v.transaction to (state_of m) → new.active ≡ m.active → new.last ≡ m.last → Holds new.transactions v.tx → MayMake (visit_towards to v) new
+  pub made-at : (new : Configuration) → state_of new ≡ turn_to v.tx.number v.transaction to (state_of m) → new.active ≡ m.active → new.last ≡ m.last → Holds new.transactions v.tx → MayMake (visit_towards to v) new
   made-at new same active last held =
       let n = v.tx.number in
       let t = v.transaction in
       let p = v.verified.now in
-      let now : State = turned n t to (state_of m) in
+      let now : State = turn_to n t to (state_of m) in
       let found : attributes_at n now.transactions ≡ Some (towards to t) = turned-found n t to (state_of m) may.visit.found in
       record {
         visit = record {
@@ -86,12 +86,12 @@ visit-drawn v m new is same active held whole = record {
 
 -- the transaction turns from m on, and in m1 it is tried whether its next block refuses it
 module _ (v : Visit) (to : ℕ) (m m1 m2 : Configuration) (may : MayTry v to m)
-    (turn : state_of m1 ≡ turned v.tx.number v.transaction to (state_of m)) (held : Holds m1.transactions v.tx) (frame : m1 ≡ record m { transactions = m1.transactions })
+    (turn : state_of m1 ≡ turn_to v.tx.number v.transaction to (state_of m)) (held : Holds m1.transactions v.tx) (frame : m1 ≡ record m { transactions = m1.transactions })
     (drawn : m2 ≡ record m1 { streams = m2.streams }) where
   pub made : MayMake (visit_towards to v) m1
   made = made-at v to m may m1 turn (ap (λ (c : Configuration). c.active) frame) (ap (λ (c : Configuration). c.last) frame) held
 
-  state_then : state_of m2 ≡ with_streams m2.streams (turned v.tx.number v.transaction to (state_of m))
+  state_then : state_of m2 ≡ with_streams m2.streams (turn_to v.tx.number v.transaction to (state_of m))
   state_then = ap state_of drawn ∙ ap (with_streams m2.streams) turn
 
   -- it is found with that one next block
@@ -113,13 +113,13 @@ module _ (v : Visit) (to : ℕ) (m m1 m2 : Configuration) (may : MayTry v to m)
       )
 
   -- it turns back
-  module _ (m3 : Configuration) (back : state_of m3 ≡ turned v.tx.number (towards to v.transaction) v.transaction.next (state_of m2)) (kept : m3 ≡ record m2 { transactions = m3.transactions }) where
+  module _ (m3 : Configuration) (back : state_of m3 ≡ turn_to v.tx.number (towards to v.transaction) v.transaction.next (state_of m2)) (kept : m3 ≡ record m2 { transactions = m3.transactions }) where
     streams_same : m3.streams ≡ m2.streams
     streams_same = ap (λ (c : Configuration). c.streams) kept
 
     state_back : state_of m3 ≡ with_streams m2.streams (state_of m)
     state_back =
-        back ∙ ap (turned v.tx.number (towards to v.transaction) v.transaction.next) state_then
+        back ∙ ap (turn_to v.tx.number (towards to v.transaction) v.transaction.next) state_then
         ∙ ap (with_streams m2.streams) (turned-back v.tx.number v.transaction to (state_of m) may.visit.found)
 
     keeps : KeepsButStreams m m3
@@ -163,7 +163,7 @@ draws_twice m1 m2 m3 h k = (k.0 ∙ ap (with_streams m3.streams) h.0, k.1 ∙ h.
 module _ (v : Visit) (pair : ℕ × ℕ) (m : Configuration) where
   -- what is done where both refuse
   abbrev waits : State → Outcome State
-  waits u = Gives (placed v.tx.number JoinsRetryList u)
+  waits u = Gives (place_by v.tx.number JoinsRetryList u)
 
   pub first_turns : (new : Configuration) → TurnsTo (Ok true) v pair.0 m new → TurnsToOne (Ok true) v pair m new
   first_turns new h = (pair.0, h.0 (λ u. tries_at v pair.1 waits u), h.1)
@@ -178,7 +178,7 @@ module _ (v : Visit) (pair : ℕ × ℕ) (m : Configuration) where
       pair.1,
       refused.0 (λ u. tries_at v pair.1 waits u) ∙ h.0 waits,
       (
-        (((h.1).0).0 ∙ ap (λ (s : State). turned v.tx.number v.transaction pair.1 (with_streams new.streams s)) (refused.1).0, ((h.1).0).1 ∙ (refused.1).1),
+        (((h.1).0).0 ∙ ap (λ (s : State). turn_to v.tx.number v.transaction pair.1 (with_streams new.streams s)) (refused.1).0, ((h.1).0).1 ∙ (refused.1).1),
         (h.1).1,
       ),
     )

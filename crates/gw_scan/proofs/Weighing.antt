@@ -12,7 +12,7 @@ use Rattle.gw_object.specs.Limits.{greatest_weight}
 use Rattle.gw_object.specs.Grammar.{SlopeFits, HasSpelling}
 use Rattle.gw_num.specs.Table.{at, tabulate}
 use Rattle.gw_num.proofs.Tables.{sum_by-replicate, tabulate-replicate, at_past}
-use Rattle.gw_transactions.specs.Transactions.{LiveTransaction, ListedTransaction, listed_as, listed}
+use Rattle.gw_transactions.specs.Transactions.{LiveTransaction, ListedTransaction, listed_as, listed_transactions}
 use Rattle.gw_rules.specs.Weights.{weight_at, slope_at}
 use Rattle.gw_members.specs.declared.tx.Event.{Event}
 use Rattle.gw_machine.specs.Configuration.{Configuration}
@@ -60,14 +60,14 @@ owed_less p scheduled (suc i) most few = omega (arith, few, mul-le 1 most (suc i
 abbrev pub listed_weight : Parts → ListedTransaction → ℕ
 listed_weight p t = weight_by p t.1 t.0.next (two_next p t.0) t.2
 
-all_listed : (p : Parts) (txs : List (Option LiveTransaction)) → sum_by (listed_weight p) (listed txs) ≡ sum_by (weight_in p) txs
+all_listed : (p : Parts) (txs : List (Option LiveTransaction)) → sum_by (listed_weight p) (listed_transactions txs) ≡ sum_by (weight_in p) txs
 all_listed p [] = refl
 all_listed p (None ∷ txs) = omega (arith, all_listed p txs, sum_by-cons (weight_in p) None txs)
-all_listed p (Some t ∷ txs) = omega (arith, all_listed p txs, sum_by-cons (weight_in p) (Some t) txs, sum_by-cons (listed_weight p) (listed_as t) (listed txs))
+all_listed p (Some t ∷ txs) = omega (arith, all_listed p txs, sum_by-cons (weight_in p) (Some t) txs, sum_by-cons (listed_weight p) (listed_as t) (listed_transactions txs))
 
 -- in whatever order they are listed, they weigh the same together
-pub all_weigh : (p : Parts) (txs : List (Option LiveTransaction)) (all : List ListedTransaction) → IsPermutation (listed txs) all → sum_by (listed_weight p) all ≡ sum_by (weight_in p) txs
-all_weigh p txs all same = sum_by-IsPermutation (listed_weight p) (listed txs) all same ∙ all_listed p txs
+pub all_weigh : (p : Parts) (txs : List (Option LiveTransaction)) (all : List ListedTransaction) → IsPermutation (listed_transactions txs) all → sum_by (listed_weight p) all ≡ sum_by (weight_in p) txs
+all_weigh p txs all same = sum_by-IsPermutation (listed_weight p) (listed_transactions txs) all same ∙ all_listed p txs
 
 -- BY NUMBER
 

@@ -16,12 +16,12 @@ use Rattle.gw_scan.specs.Makes.{MakesFrom}
 use Rattle.gw_scan.specs.Visiting.{IsVisit, MayMake, meets_its_next}
 use Rattle.gw_scan.specs.declared.both.Before.{Before}
 use Rattle.gw_scan.specs.declared.visit.Visit.{Visit}
-use Rattle.gw_step.specs.Outcome.{Outcome, Gives, EndsBy, ◌>>=◌, end_by, evaluated}
-use Rattle.gw_step.specs.Placing.{placed}
+use Rattle.gw_step.specs.Outcome.{Outcome, Gives, EndsBy, ◌>>=◌, end_by, evaluation_outcome}
+use Rattle.gw_step.specs.Placing.{place_by}
 use Rattle.gw_step.specs.State.{State, with_streams}
 use Rattle.gw_step.specs.Step.{goes_on, meets_one, refusal, refusal_by, tries, tries_both}
 use Rattle.gw_step.specs.Times.{environment_of}
-use Rattle.gw_step.specs.Turning.{towards, turned, two_next}
+use Rattle.gw_step.specs.Turning.{towards, turn_to, two_next}
 use Rattle.gw_step.specs.declared.placement.Placement.TheVariants.{JoinsRetryList}
 use Rattle.gw_transactions.specs.declared.Transaction.{Transaction}
 use Rattle.gw_transactions.specs.Transactions.{attributes_at}
@@ -52,7 +52,7 @@ goes_from v s = goes_on v.verified.now v.tx.number v.transaction (two_next v.ver
 -- the answer of a block that lets everybody enter to n, which is t and meets it next, and the streams after its operands
 abbrev pub no_refusal : Parts → ℕ → Transaction → Block → State → Outcome (Bool × List ℕ)
 no_refusal p n t block s =
-    evaluated (operands p (environment_of n t s) block s.streams) >>= λ read. Gives (false, read.1)
+    evaluation_outcome (operands p (environment_of n t s) block s.streams) >>= λ read. Gives (false, read.1)
 
 -- what was answered of a refusal, with the streams as they are then
 abbrev pub TellsRefusal : Result Bool PlusEnd → List ℕ → Visit → Block → State → Type 0
@@ -89,7 +89,7 @@ KeepsButStreams old new = Becomes (with_streams new.streams (state_of old)) old 
 -- the transaction has turned to a block, and the streams are others
 abbrev pub HasTurned : Visit → ℕ → Configuration → Configuration → Type 0
 HasTurned v to old new =
-    Becomes (turned v.tx.number v.transaction to (with_streams new.streams (state_of old))) old new
+    Becomes (turn_to v.tx.number v.transaction to (with_streams new.streams (state_of old))) old new
     × MayMake (visit_towards to v) new
 
 -- the transaction has turned to a block, which it meets then; or is refused by it, and the streams alone have changed; or the evaluation of that ends the job so
@@ -109,7 +109,7 @@ abbrev pub TurnsToOne : Result Bool PlusEnd → Visit → ℕ × ℕ → Configu
 TurnsToOne (Ok true) v pair old new =
     (to : ℕ) × (tries_two v pair (state_of old) ≡ meets_at v to (state_of new)) × HasTurned v to old new
 TurnsToOne (Ok false) v pair old new =
-    (tries_two v pair (state_of old) ≡ Gives (placed v.tx.number JoinsRetryList (state_of new)))
+    (tries_two v pair (state_of old) ≡ Gives (place_by v.tx.number JoinsRetryList (state_of new)))
     × KeepsButStreams old new × IsVisit v new
 TurnsToOne (Err end) v pair old new =
     (tries_two v pair (state_of old) ≡ EndsBy (end_by end)) × KeepsButStreams old new
@@ -122,22 +122,22 @@ IsAsBefore tx t m = t.current ≢ t.next → attributes_at tx.number m.transacti
 
 -- the transaction n has the block that it is in as its next one again
 abbrev pub turned_back : ℕ → State → State
-turned_back n s = option_map_or (λ t. turned n t t.current s) (attributes_at n s.transactions) s
+turned_back n s = option_map_or (λ t. turn_to n t t.current s) (attributes_at n s.transactions) s
 
 -- the active one has; where nobody is active nothing changes
 abbrev pub active_back : State → State
 active_back s = option_map_or (λ n. turned_back n s) s.lists.active s
 
 -- what has to be undone is, with the streams that were before
-abbrev pub undone : Before → State → State
-undone before s = if before.turned then with_streams before.streams (active_back s) else s
+abbrev pub undo_from : Before → State → State
+undo_from before s = if before.turned then with_streams before.streams (active_back s) else s
 
 -- GOING ON
 
 -- the transaction has one next block, which it meets then, and what was done for that can be undone
 pub record HasOneNext (v : Visit) (outcome : Outcome State) (before : Before) (old new : Configuration) (to : ℕ) : Type 0 where
   pub meets : outcome ≡ meets_at v to (state_of new)
-  pub undo : undone before (state_of new) ≡ state_of old
+  pub undo : undo_from before (state_of new) ≡ state_of old
   pub last : new.last ≡ old.last
   pub may : MayMake (visit_towards to v) new
 
@@ -162,5 +162,5 @@ GoesOnByHandle result verified tx before old new =
 abbrev pub MakesOrUndoes : {E : Type 0} → Result Made E → (State → Outcome State) → Before → Configuration → Configuration → Type 0
 MakesOrUndoes (Ok Step) outcome before old new = (outcome (state_of old) ≡ Gives (state_of new)) × (new.last ≡ old.last)
 MakesOrUndoes (Ok (Ends end)) outcome before old new =
-    (outcome (state_of old) ≡ EndsBy end) × (undone before (state_of new) ≡ state_of old) × (new.last ≡ old.last)
-MakesOrUndoes (Err memory) outcome before old new = (undone before (state_of new) ≡ state_of old) × (new.last ≡ old.last)
+    (outcome (state_of old) ≡ EndsBy end) × (undo_from before (state_of new) ≡ state_of old) × (new.last ≡ old.last)
+MakesOrUndoes (Err memory) outcome before old new = (undo_from before (state_of new) ≡ state_of old) × (new.last ≡ old.last)

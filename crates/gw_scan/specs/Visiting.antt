@@ -9,7 +9,7 @@ use Rattle.gw_operands.specs.Values.{operand_value, with_first}
 use Rattle.gw_operands.specs.declared.ends.PlusEnd.{PlusEnd}
 use Rattle.gw_machine.specs.Coherence.{IsActive, IsOf, IsPassing, IsRunning}
 use Rattle.gw_machine.specs.Configuration.{Configuration}
-use Rattle.gw_machine.specs.Evaluating.{valued}
+use Rattle.gw_machine.specs.Evaluating.{value_outcome}
 use Rattle.gw_machine.specs.Slots.{greatest_set, set_by}
 use Rattle.gw_machine.specs.View.{assembly_of, state_of, entity_count}
 use Rattle.gw_machine.specs.declared.machine.Made.{Made}
@@ -18,15 +18,15 @@ use Rattle.gw_machine.specs.Leaving.{BecomesOnOk}
 use Rattle.gw_scan.specs.Makes.{MakesFrom, MakesOnOk}
 use Rattle.gw_scan.specs.declared.visit.Visit.{Visit}
 use Rattle.gw_step.specs.Asks.{Asks, IsServed, Leads, MayLead}
-use Rattle.gw_step.specs.Blocks.{act, admission, assemble_first, assemble_other, assembly_at, hand_over, joined_by_one, led_by, plus, tabulate, then_placed, transfer, unlinked, until}
-use Rattle.gw_step.specs.Changes.{arrives, assigned, copies_made, counted, entered, enters_and_falls}
+use Rattle.gw_step.specs.Blocks.{act, admission, assemble_first, assemble_other, assembly_at, hand_over, joined_by_one, led_by, plus, tabulate, then_placed, transfer, unlink_members, until}
+use Rattle.gw_step.specs.Changes.{arrives, assign_to, copies_made, count_down, enter_next, enters_and_falls}
 use Rattle.gw_step.specs.Operands.{MayMeet, MayStep, OperandsFit}
 use Rattle.gw_step.specs.Outcome.{Outcome, Gives}
-use Rattle.gw_step.specs.Placing.{placed}
+use Rattle.gw_step.specs.Placing.{place_by}
 use Rattle.gw_step.specs.State.{Assembly, State, delay_list, with_streams}
 use Rattle.gw_step.specs.Step.{meets_one}
 use Rattle.gw_step.specs.Times.{environment_of}
-use Rattle.gw_step.specs.Turning.{turned, two_next}
+use Rattle.gw_step.specs.Turning.{turn_to, two_next}
 use Rattle.gw_step.specs.declared.placement.Placement.{Placement}
 use Rattle.gw_step.specs.declared.placement.Placement.TheVariants.{JoinsRetryList, LeavesModel}
 use Rattle.gw_transactions.specs.declared.Transaction.{Transaction}
@@ -36,8 +36,8 @@ use Rattle.gw_transactions.specs.Transactions.{attributes_at}
 
 -- once the transaction n, which is t, has turned to this block, its next block may be met, wherever the streams are
 pub record MayTurn (p : Parts) (n : ℕ) (t : Transaction) (to : ℕ) (s : State) : Type 0 where
-  pub values : (streams : List ℕ) → MayStep p (turned n t to (with_streams streams s))
-  pub served : (streams : List ℕ) → IsServed p (turned n t to (with_streams streams s))
+  pub values : (streams : List ℕ) → MayStep p (turn_to n t to (with_streams streams s))
+  pub served : (streams : List ℕ) → IsServed p (turn_to n t to (with_streams streams s))
 
 -- an active transaction with two next blocks may turn to either
 abbrev pub MayTurnToBoth : Parts → State → Type 0
@@ -103,7 +103,7 @@ environment_in v m = environment_of v.tx.number v.transaction (state_of m)
 
 -- an operand was evaluated for the visit, and moved the streams
 abbrev pub EvaluatesFor : Visit → Operand → Configuration → Result ℤ PlusEnd → List ℕ → List ℕ → Type 0
-EvaluatesFor v operand m result old new = operand_value v.verified.now (environment_in v m) operand old ≡ valued result new
+EvaluatesFor v operand m result old new = operand_value v.verified.now (environment_in v m) operand old ≡ value_outcome result new
 
 -- the assembly of the transaction's set at its next block, if one has begun there
 abbrev pub assembly_met : Visit → Configuration → Option Assembly
@@ -113,7 +113,7 @@ assembly_met v m = assembly_at v.transaction.next v.transaction.set (state_of m)
 
 -- the transaction enters its next block, and the one after is now this one
 abbrev pub after_entry : Visit → ℕ → State → State
-after_entry v next s = entered v.tx.number v.transaction next s
+after_entry v next s = enter_next v.tx.number v.transaction next s
 
 -- the transaction enters its next block, and falls to the one after
 abbrev pub after_fall : Visit → State → State
@@ -121,7 +121,7 @@ after_fall v s = enters_and_falls v.tx.number v.transaction s
 
 -- the transaction enters its next block, and the one after is now this one; a parameter of it has this value before
 abbrev pub after_assignment : Visit → ℕ → ℕ → ℤ → State → State
-after_assignment v next p value s = after_entry v next (assigned v.tx.number p value s)
+after_assignment v next p value s = after_entry v next (assign_to v.tx.number p value s)
 
 -- the transaction enters and falls, and then a facility is handed over to the first of its delay list
 abbrev pub falls_and_hands_over : ℕ → Visit → State → State
@@ -138,11 +138,11 @@ falls_and_copies copies target v s =
 
 -- the transaction enters and falls, and then so many members are taken from a user chain
 abbrev pub falls_and_unlinks : ℕ → Unlink → Visit → State → State
-falls_and_unlinks count u v s = unlinked count u.chain u.target (after_fall v s)
+falls_and_unlinks count u v s = unlink_members count u.chain u.target (after_fall v s)
 
 -- the transaction enters, so much is counted down, and it leaves the model
 abbrev pub enters_and_leaves : ℤ → Visit → State → State
-enters_and_leaves by v s = placed v.tx.number LeavesModel (counted by (after_entry v v.transaction.next s))
+enters_and_leaves by v s = place_by v.tx.number LeavesModel (count_down by (after_entry v v.transaction.next s))
 
 -- the same, after draws that left the streams here
 abbrev pub leaves_after : List ℕ → ℤ → Visit → State → State
@@ -150,11 +150,11 @@ leaves_after streams by v s = enters_and_leaves by v (with_streams streams s)
 
 -- the transaction enters, one more has come to an assembly, and it leaves the model
 abbrev pub joins_and_leaves : HeldAssembly → Visit → State → State
-joins_and_leaves a v s = placed v.tx.number LeavesModel (joined_by_one (assembly_of a) (after_entry v v.transaction.next s))
+joins_and_leaves a v s = place_by v.tx.number LeavesModel (joined_by_one (assembly_of a) (after_entry v v.transaction.next s))
 
 -- the transaction waits on the retry list, after draws that left the streams here
 abbrev pub retries_after : List ℕ → Visit → State → State
-retries_after streams v s = placed v.tx.number JoinsRetryList (with_streams streams s)
+retries_after streams v s = place_by v.tx.number JoinsRetryList (with_streams streams s)
 
 -- the transaction meets its next block
 abbrev pub meets_its_next : Visit → State → Outcome State
@@ -193,7 +193,7 @@ other_assembles a v s = entry (λ bs n t. assemble_other n t (assembly_of a)) v 
 -- the transaction enters with the streams here, falls to the block after, and is placed; or there was no memory for it, and nothing changed
 abbrev pub PassesOnOk : {E : Type 0} → Result (Unit {0}) E → Visit → List ℕ → Placement → Configuration → Configuration → Type 0
 PassesOnOk result v streams placement old new =
-    BecomesOnOk result (λ s. placed v.tx.number placement (after_fall v (with_streams streams s))) old new
+    BecomesOnOk result (λ s. place_by v.tx.number placement (after_fall v (with_streams streams s))) old new
 
 -- the same, where the streams stay
 abbrev pub PassesUndrawn : {E : Type 0} → Result (Unit {0}) E → Visit → Placement → Configuration → Configuration → Type 0
@@ -228,7 +228,7 @@ arrival_drawn stream priority moment v s = arrival_with (with_first stream s.str
 abbrev pub passes_or_retries : Visit → Option ℕ → Bool → State → Outcome State
 passes_or_retries v otherwise so s =
     if is_none otherwise && not so
-    then Gives (placed v.tx.number JoinsRetryList s)
+    then Gives (place_by v.tx.number JoinsRetryList s)
     else entry (λ bs n t. transfer bs n t (led_by t.next otherwise so)) v s
 
 -- the same, after draws that left the streams here

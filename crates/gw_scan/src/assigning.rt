@@ -31,7 +31,7 @@ fn put_by(mode: Mode, old: i64, value: i64) -> Result<i64, NumFault>
 /// Where a LOOP, the block of this number, leads to when its parameter has come to this.
 fn looped(block: u16, target: u16, left: i64) -> u16
     requires { block ≤ 4096 }
-    ensures { result ≡ model.looped block target left }
+    ensures { result ≡ model.loop_target block target left }
 {
     if 0 < left { target } else { block + 1 }
 }

@@ -24,7 +24,7 @@ use gw_step::{End, Placement};
 /// Where a TRANSFER by fraction, the block of this number, leads to when so many thousandths are drawn.
 fn chosen(block: u16, fraction: Fraction, drawn: i64) -> u16
     requires { block ≤ 4096 }
-    ensures { result ≡ model.chosen block fraction drawn }
+    ensures { result ≡ model.choice_of block fraction drawn }
 {
     if drawn < i64::from(fraction.thousandths) {
         fraction.target

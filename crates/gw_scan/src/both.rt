@@ -4,12 +4,12 @@
 ghost use Rattle.std.specs.Prelude.{◌≡◌, ◌≢◌, ◌≤◌, length, Some, None, false};
 ghost use Rattle.gw_rules.specs.Kinds.{block_at};
 ghost use Rattle.gw_transactions.specs.Transactions.{Holds};
-ghost use Rattle.gw_step.specs.Placing.{placed};
+ghost use Rattle.gw_step.specs.Placing.{place_by};
 ghost use Rattle.gw_step.specs.Turning as turning;
 ghost use Rattle.gw_machine.specs.View.{state_of};
 ghost use Rattle.gw_machine.specs.Leaving.{BecomesBy, BecomesOnOk};
 ghost use Rattle.gw_scan.specs.Visiting.{IsReady, IsVisit, MayMake, MayTry, Meets};
-ghost use Rattle.gw_scan.specs.Trying.{GoesOn, TellsOfNext, TellsRefusal, TurnsTo, TurnsToOne, goes_from, tries_two, undone, visit_towards, GoesOnByHandle};
+ghost use Rattle.gw_scan.specs.Trying.{GoesOn, TellsOfNext, TellsRefusal, TurnsTo, TurnsToOne, goes_from, tries_two, undo_from, visit_towards, GoesOnByHandle};
 
 use crate::conditions::compares;
 use crate::visit::{Visit, blocks_of};
@@ -187,7 +187,7 @@ impl Visit<'_> {
     /// The transaction, refused at both its next blocks, waits on the retry list, and keeps both. On Memory nothing changes.
     fn wait_for_both(&self, machine: &mut Machine) -> Result<(), Memory>
         requires { IsVisit self.now machine.old }
-        ensures { BecomesOnOk result (placed self.now.tx.number Placement.JoinsRetryList)
+        ensures { BecomesOnOk result (place_by self.now.tx.number Placement.JoinsRetryList)
             machine.old machine.new }
     {
         self.wait_to_retry(machine)
@@ -280,7 +280,7 @@ fn turn_at_block(
 /// Where the active transaction has turned to one of two next blocks it has both again, and the streams are as they were.
 #[inline(never)]
 pub(crate) fn undo(machine: &mut Machine, before: &Before)
-    ensures { BecomesBy (undone before.now) machine.old machine.new }
+    ensures { BecomesBy (undo_from before.now) machine.old machine.new }
 {
     if !before.turned {
         return;

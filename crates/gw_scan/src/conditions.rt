@@ -3,7 +3,7 @@
 
 ghost use Rattle.std.specs.Prelude.{◌≡◌, ◌≤◌, IfSome};
 ghost use Rattle.gw_step.specs.Blocks as model;
-ghost use Rattle.gw_step.specs.Placing.{placed};
+ghost use Rattle.gw_step.specs.Placing.{place_by};
 ghost use Rattle.gw_machine.specs.Leaving.{BecomesOnOk};
 ghost use Rattle.gw_scan.specs.Makes.{MakesOnOk};
 ghost use Rattle.gw_scan.specs.Visiting.{ActsOnOk, IsVisit, MayFall, MayGo, Meets, retries_after, passes_after};
@@ -47,7 +47,7 @@ impl Visit<'_> {
     #[inline(never)]
     pub(crate) fn wait_to_retry(self, machine: &mut Machine) -> Result<(), Memory>
         requires { IsVisit self machine.old }
-        ensures { BecomesOnOk result (placed self.entry.tx.number Placement.JoinsRetryList)
+        ensures { BecomesOnOk result (place_by self.entry.tx.number Placement.JoinsRetryList)
             machine.old machine.new }
     {
         machine.reserve_rest()?;

@@ -3,7 +3,7 @@
 ghost use Rattle.std.specs.Prelude.{◌≡◌, ◌≤◌, ◌<◌, length};
 ghost use Rattle.gw_step.specs.Blocks as model;
 ghost use Rattle.gw_step.specs.Operands.{MayEvaluate};
-ghost use Rattle.gw_step.specs.Placing.{placed};
+ghost use Rattle.gw_step.specs.Placing.{place_by};
 ghost use Rattle.gw_machine.specs.Coherence.{CanBePlaced, CanRest, IsOf};
 ghost use Rattle.gw_machine.specs.Leaving.{BecomesBy};
 ghost use Rattle.gw_scan.specs.Visiting.{IsVisit, PassesOnOk, environment_in, with_priority, EvaluatesFor, PassesUndrawn, PassesUntil, PassesWithin};
@@ -42,7 +42,7 @@ fn rest_until(machine: &mut Machine, tx: Tx, moment: i64)
     requires rests { CanRest machine.old tx }
     requires wake { length machine.old.waits.retry ≤ machine.old.current_events.room }
     requires room { 0 < machine.old.future_events.room }
-    ensures { BecomesBy (placed tx.number (model.until machine.old.clock moment))
+    ensures { BecomesBy (place_by tx.number (model.until machine.old.clock moment))
         machine.old machine.new }
 {
     if machine.clock() < moment {

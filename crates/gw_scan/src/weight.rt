@@ -33,7 +33,7 @@ fn height(parameters: &Parameters, number: u8) -> u64
 /// What a slope adds to a weight, where these are the parameters.
 fn added(slope: Option<Slope>, parameters: &Parameters) -> u128
     requires { IfSome slope SlopeFits }
-    ensures value { result ≡ model.added slope parameters.now.values }
+    ensures value { result ≡ model.slope_addition slope parameters.now.values }
     ensures bound { result ≤ greatest_weight * greatest_value }
 {
     match slope {

@@ -8,7 +8,7 @@ use Rattle.gw_rules.specs.Entries.{lists, entry, amount_of}
 use Rattle.gw_rules.specs.Rows.{Row, ParamKind, Num, Ret, kind_of, units_of, kind_fits, KindAscends, IsOrdered}
 use Rattle.gw_rules.proofs.Fitting.{included}
 use Rattle.gw_flow.proofs.Ascending.{AllPairs-head, AllPairs-tail, AllPairs-map}
-use Rattle.gw_settle.specs.Joins.{keep, united, joined_kind, joined, is_within, with_state}
+use Rattle.gw_settle.specs.Joins.{keep, union_of, joined_kind, join_rows, is_within, with_state}
 use Rattle.gw_settle.proofs.Joining.{lists-united, units_joined}
 use Rattle.gw_settle.proofs.Ordering.{united_ascends, found, join_is_ordered}
 use Rattle.gw_settle.proofs.Falling.{within_true}
@@ -107,8 +107,8 @@ or_among false true h = absurd (false≢true (h refl))
 or_among false false h = refl
 
 -- a set with some of its own stays
-united_stays : (ns ms : List ℕ) → AllPairs (λ a b. a < b) ns → AllPairs (λ a b. a < b) ms → list_all (λ b. lists ns b) ms ≡ true → united ns ms ≡ ns
-united_stays ns ms un um within = lists_same (united ns ms) ns (united_ascends ns ms un um) un (λ b. lists-united ns ms b ∙ or_among (lists ns b) (lists ms b) (λ has. included ms ns within b has))
+united_stays : (ns ms : List ℕ) → AllPairs (λ a b. a < b) ns → AllPairs (λ a b. a < b) ms → list_all (λ b. lists ns b) ms ≡ true → union_of ns ms ≡ ns
+united_stays ns ms un um within = lists_same (union_of ns ms) ns (united_ascends ns ms un um) un (λ b. lists-united ns ms b ∙ or_among (lists ns b) (lists ms b) (λ has. included ms ns within b has))
 
 -- JOINS
 
@@ -133,7 +133,7 @@ keep_stays f [] h = refl
 keep_stays f (e ∷ es) h = rw (All-head (λ x. f x.0 ≡ Some x.1) e es h) (ap (λ xs. e ∷ xs) (keep_stays f es (All-tail (λ x. f x.0 ≡ Some x.1) e es h)))
 
 -- a row with a state that has what it knows stays
-joined_stays : (row state : Row) → IsOrdered row → IsOrdered state → is_within state row ≡ true → joined row state ≡ row
+joined_stays : (row state : Row) → IsOrdered row → IsOrdered state → is_within state row ≡ true → join_rows row state ≡ row
 joined_stays row state h g is =
     let within = within_true state row is in
     let params = keep_stays (λ p. joined_kind (kind_of row p) (kind_of state p)) row.params
@@ -142,12 +142,12 @@ joined_stays row state h g is =
     let own : kind_of row e.0 ≡ Some e.1 = own_entries row.params h.params k d lt in
     ap (λ o. joined_kind o (kind_of state e.0)) own
     ∙ kind_stays e.1 (kind_of state e.0) (h.returns k d lt) (λ x there. found KindAscends state.params e.0 x g.returns there) (subst (λ o. IsTrue (kind_fits (kind_of state e.0) o)) own (within.params e.0))) in
-    row_same (joined row state) row (join_is_ordered row state h g) h params refl (λ e. omega (arith, units_joined row state e, within.units e))
+    row_same (join_rows row state) row (join_is_ordered row state h g) h params refl (λ e. omega (arith, units_joined row state e, within.units e))
 
-with_if : (row state : Row) (stays : Bool) → IsOrdered row → IsOrdered state → is_within state row ≡ stays → (if stays then row else joined row state) ≡ joined row state
+with_if : (row state : Row) (stays : Bool) → IsOrdered row → IsOrdered state → is_within state row ≡ stays → (if stays then row else join_rows row state) ≡ join_rows row state
 with_if row state true h g is = sym (joined_stays row state h g is)
 with_if row state false h g is = refl
 
 -- where a state comes to a row they are joined, also where the row stays
-pub with_joined : (row state : Row) → IsOrdered row → IsOrdered state → with_state state (Some row) ≡ joined row state
+pub with_joined : (row state : Row) → IsOrdered row → IsOrdered state → with_state state (Some row) ≡ join_rows row state
 with_joined row state h g = with_if row state (is_within state row) h g refl

@@ -25,7 +25,7 @@ use Rattle.gw_rules.proofs.Chains.{ChainUse, Links, Unlinks, Neither, chain_use}
 use Rattle.gw_rules.proofs.Fitting.{fits_on, fits_itself}
 use Rattle.gw_rules.proofs.Passing.{flow_passes_at_each_block}
 use Rattle.gw_rules.proofs.Monotone.{fitting_states_pass}
-use Rattle.gw_settle.specs.Joins.{joined_kind, joined, Within}
+use Rattle.gw_settle.specs.Joins.{joined_kind, join_rows, Within}
 use Rattle.gw_settle.proofs.Joining.{join_is_greatest, kind_joined, in_either}
 use Rattle.gw_settle.specs.Rounds.{sends}
 use Rattle.gw_settle.specs.Keeps.{changes, NoneChanged, IsByPlace, IsKindGrounded, IsGrounded, IsBelow, IsTableBelow, IsGood, IsIdle, IsIdleAt}
@@ -77,14 +77,14 @@ module _ (p : Parts) where
     each = λ b has. ⊎_elim (λ (x : lists bs b ≡ true). h.each b x) (λ (x : lists cs b ≡ true). g.each b x) (in_either bs cs b has);
   }
 
-  pub grounded_joined : (row state : Row) → IsGrounded p row → IsGrounded p state → IsGrounded p (joined row state)
+  pub grounded_joined : (row state : Row) → IsGrounded p row → IsGrounded p state → IsGrounded p (join_rows row state)
   grounded_joined row state h g = λ q. rw (kind_joined row state q) (grounded_kinds q (kind_of row q) (kind_of state q) (h q) (g q))
 
 within : (state row : Row) → Fits state row → Within state row
 within state row h = record { params = h.params; units = h.units }
 
 -- what fits both fits the join of both
-pub fits_joined : (row state other : Row) → Fits row other → Fits state other → Fits (joined row state) other
+pub fits_joined : (row state other : Row) → Fits row other → Fits state other → Fits (join_rows row state) other
 fits_joined row state other h g =
     let both = join_is_greatest row state other (within row other h) (within state other g) in
     record { params = both.params; facilities = h.facilities; units = both.units }

@@ -17,8 +17,8 @@ use Rattle.gw_rules.specs.Blocks.{FlowEdge}
 use Rattle.gw_rules.specs.FlowCodes as codes
 use Rattle.gw_rules.specs.Rows.{Row, nothing_known}
 use Rattle.gw_rules.specs.Blocks.{Rule, rules, members_move, members_edges, edges}
-use Rattle.gw_settle.specs.Joins.{joined, with_state}
-use Rattle.gw_settle.specs.Rounds.{TableRows, as_table, changed, sent_at, sent_to, all_sent, sends_in, visited, visited_to}
+use Rattle.gw_settle.specs.Joins.{join_rows, with_state}
+use Rattle.gw_settle.specs.Rounds.{TableRows, as_table, with_change_at, sent_at, sent_to, all_sent, sends_in, visit_block, visited_to}
 use Rattle.gw_settle.specs.Jumps.{units_asked, row_in}
 use Rattle.gw_settle.proofs.Alike.{with_joined}
 use Rattle.gw_settle.proofs.Courses.{Course, Declines, joined_declines, IsDecidedFor, rules_same, rules_held, CourseEdge, edge_at, edges_at, EdgeDeclines, course_edge, courses_from, from_at, from_decline, courses_joining, joining_at, joining_declines}
@@ -83,7 +83,7 @@ declines_of p n cs (targets.Chain e) h = declines_in n cs.chains (chain_place p.
 
 abbrev with_course : Course → Option Course → Course
 with_course s None = s
-with_course s (Some f) = λ t. joined (f t) (s t)
+with_course s (Some f) = λ t. join_rows (f t) (s t)
 
 with_at : (n t : ℕ) (s : Course) (c : Option Course) → Declines n s → PlaceDeclines n c → with_course s c t ≡ with_state (s t) (place_at t c)
 with_at n t s None h g = refl
@@ -94,7 +94,7 @@ with_declines n s None h g = h
 with_declines n s (Some f) h g = joined_declines n f s g h
 
 abbrev course_sent_at : Course → ℕ → List (Option Course) → List (Option Course)
-course_sent_at s k cs = changed (λ c. Some (with_course s c)) k cs
+course_sent_at s k cs = with_change_at (λ c. Some (with_course s c)) k cs
 
 sent_place : (n t : ℕ) (s : Course) (k : ℕ) (cs : List (Option Course)) → Declines n s → All (PlaceDeclines n) cs → places_at t (course_sent_at s k cs) ≡ sent_at (s t) k (places_at t cs)
 sent_place n t s k [] h g = refl
@@ -232,7 +232,7 @@ of_decline p n cs b (Some block) (Some f) all h ready =
 abbrev pub course_visited : Parts → ℕ → CourseRows → CourseRows
 course_visited p b cs = courses_sent p (courses_of p cs b (block_at p.blocks b) (course_of p cs (targets.Block b))) cs
 
-pub visited_at : (p : Parts) (n t b : ℕ) (cs : CourseRows) → AllDecline n cs → IsReady p n cs b → t ≤ n → rows_at t (course_visited p b cs) ≡ visited p b (rows_at t cs)
+pub visited_at : (p : Parts) (n t b : ℕ) (cs : CourseRows) → AllDecline n cs → IsReady p n cs b → t ≤ n → rows_at t (course_visited p b cs) ≡ visit_block p b (rows_at t cs)
 visited_at p n t b cs h ready le =
     let here = declines_of p n cs (targets.Block b) h in
     sent_all_at p n t (courses_of p cs b (block_at p.blocks b) (course_of p cs (targets.Block b))) cs (of_decline p n cs b (block_at p.blocks b) (course_of p cs (targets.Block b)) h here ready) h
@@ -258,5 +258,5 @@ pub record AreVisited (p : Parts) (n k : ℕ) (cs : CourseRows) : Type 0 where
 pub visited_more : (p : Parts) (n k : ℕ) (cs : CourseRows) → AreVisited p n k cs → IsReady p n (course_visited_to p k cs) (suc k) → AreVisited p n (suc k) cs
 visited_more p n k cs h ready = record {
   decline = visited_decline p n (suc k) (course_visited_to p k cs) h.decline ready;
-  rows = λ t le. visited_at p n t (suc k) (course_visited_to p k cs) h.decline ready le ∙ ap (visited p (suc k)) (h.rows t le);
+  rows = λ t le. visited_at p n t (suc k) (course_visited_to p k cs) h.decline ready le ∙ ap (visit_block p (suc k)) (h.rows t le);
 }

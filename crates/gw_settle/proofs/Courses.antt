@@ -14,7 +14,7 @@ use Rattle.gw_rules.specs.declared.ways.Who.{Who}
 use Rattle.gw_rules.specs.declared.ways.Who.TheVariants.{Itself, Copies}
 use Rattle.gw_rules.specs.declared.ways.Exit.{Exit}
 use Rattle.gw_rules.specs.Exits.{leads_to, exits_with}
-use Rattle.gw_operands.specs.Sources.{evaluated}
+use Rattle.gw_operands.specs.Sources.{evaluation_operands}
 use Rattle.gw_rules.specs.Kinds.{is_generate}
 use Rattle.gw_rules.specs.declared.set_parameters.Parameter.{Parameter}
 use Rattle.gw_rules.specs.declared.edges.Target.{Target}
@@ -27,7 +27,7 @@ use Rattle.gw_rules.specs.Seen.{kind_seen}
 use Rattle.gw_rules.specs.Blocks.{Rule, rule, replaces, number_rules, parameters_read, value_rules, own_rules, rules, parameter_set, with_setting, after, returns_read, is_used, known_of, edges_along, edges_from, joins}
 use Rattle.gw_rules.proofs.Entries.{amount-with_entry}
 use Rattle.gw_flow.proofs.Ordered.{seen_ascends, with_parameter_ordered, with_facility_ordered, without_facility_ordered, with_units_ordered}
-use Rattle.gw_settle.specs.Joins.{keep, joined_kind, joined}
+use Rattle.gw_settle.specs.Joins.{keep, joined_kind, join_rows}
 use Rattle.gw_settle.specs.Jumps.{units_asked}
 use Rattle.gw_settle.proofs.Joining.{units_joined}
 use Rattle.gw_settle.proofs.Ordering.{join_is_ordered}
@@ -59,7 +59,7 @@ left_to n f h t e le = left_at n f h (n - t) t e (omega (arith, le))
 
 -- JOINS
 
-pub joined_declines : (n : ℕ) (f s : Course) → Declines n f → Declines n s → Declines n (λ t. joined (f t) (s t))
+pub joined_declines : (n : ℕ) (f s : Course) → Declines n f → Declines n s → Declines n (λ t. join_rows (f t) (s t))
 joined_declines n f s h g = record {
   params = λ t. ap₂ (λ ps qs. keep (λ p. joined_kind (entry ps p) (entry qs p)) ps) (h.params t) (g.params t);
   facilities = h.facilities;
@@ -192,7 +192,7 @@ of_params ps = record { params = ps; facilities = []; units = [] }
 
 module _ (p : Parts) (n t : ℕ) (f : Course) (h : Declines n f) (le : t ≤ n) where
   values_same : (block : Block) → value_rules p block (f t) ≡ value_rules p block (f 0)
-  values_same block = ap (λ ps. flat_map (number_rules (of_params ps)) (parameters_read p (evaluated p.entities block))) (h.params t)
+  values_same block = ap (λ ps. flat_map (number_rules (of_params ps)) (parameters_read p (evaluation_operands p.entities block))) (h.params t)
 
   own_same : (block : Block) → IsDecidedFor n (units_asked block) f → (is_generate (Some block) ≡ true → f 0 ≡ nothing_known) → own_rules p block (f t) ≡ own_rules p block (f 0)
   own_same (blocks.Generate g) d arrives = ap (λ row. rule codes.edge_state (is_empty row) ∷ []) (nothing_stays n t f h le (arrives refl))

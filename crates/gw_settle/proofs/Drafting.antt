@@ -23,7 +23,7 @@ use Rattle.gw_settle.specs.Drafts.{rows_held, table_in, members_at, Sends, HasBl
 use Rattle.gw_settle.specs.Jumps.{row_in}
 use Rattle.gw_settle.specs.Keeps.{MayEnter, HasShape, IsIdleAt, sets_return}
 use Rattle.gw_settle.specs.Marks.{MarksFollow, UnlinksFollow}
-use Rattle.gw_settle.specs.Rounds.{TableRows, rows_of, as_table, with_blocks, sent_at, sent, all_sent, sent_to, sends, sends_in, visited, visited_to, change_of, changes_of, change_at, change_to, followed_by}
+use Rattle.gw_settle.specs.Rounds.{TableRows, rows_of, as_table, with_blocks, sent_at, send_edge, all_sent, sent_to, sends, sends_in, visit_block, visited_to, change_of, changes_of, change_at, change_to, followed_by}
 use Rattle.gw_settle.specs.Versions.{IsOneVersion, IsReturnAt, rules_hold, SendsBehind, IsSharing, without_version, sent_behind, change_behind}
 use Rattle.gw_settle.proofs.Marking.{follow_itself, follow_on, follow_change, follow_chain, idle_changes_none, idle_unmarked}
 use Rattle.gw_settle.proofs.Sent.{rules_hold as rules_are_held, rules_broken, broken_found, none_found, followed_by_assoc, same_after, sends_are, Sending, sending_more}
@@ -98,7 +98,7 @@ pub sending_on : (p : Parts) (all rest : List FlowEdge) (e : FlowEdge) (start no
     Sending p all rest (rows_held start.rows) (rows_held next.rows) (followed_by change d)
 sending_on p all rest e start now next change d h g =
     subst (λ r. Sending p all rest (rows_held start.rows) r (followed_by change d)) (sym g.rows)
-    (subst (λ x. Sending p all rest (rows_held start.rows) (sent p e (rows_held now.rows)) (followed_by change x)) (sym g.is)
+    (subst (λ x. Sending p all rest (rows_held start.rows) (send_edge p e (rows_held now.rows)) (followed_by change x)) (sym g.is)
     (sending_more p all rest e (rows_held start.rows) (rows_held now.rows) change h))
 
 -- VISITS
@@ -176,7 +176,7 @@ visits_on p i start now new c d h g =
     let r = rows_held start.rows in
     let last : IsVisit p (suc i) now new d = subst (λ n. IsVisit p n now new d) (sym next) g in
     subst (λ n. Steps (visited_to p n) (change_to p n) start new (followed_by c d)) next (record {
-      rows = last.rows ∙ ap (visited p (suc i)) h.rows;
+      rows = last.rows ∙ ap (visit_block p (suc i)) h.rows;
       is = ap₂ followed_by h.is (last.is ∙ ap (change_at p (suc i)) h.rows);
     })
 

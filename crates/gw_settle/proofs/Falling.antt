@@ -18,7 +18,7 @@ use Rattle.gw_rules.proofs.Fitting.{fits_is_decided}
 use Rattle.gw_settle.specs.declared.table.Change.{Change}
 use Rattle.gw_settle.specs.declared.table.Change.TheVariants.{Same, Less, More}
 use Rattle.gw_settle.specs.Joins.{is_within, Within, with_state}
-use Rattle.gw_settle.specs.Rounds.{TableRows, as_table, sent_at, sent_to, sent, all_sent, sends_in, sends, visited_to, change_of, followed_by, changes_of, change_at, change_to}
+use Rattle.gw_settle.specs.Rounds.{TableRows, as_table, sent_at, sent_to, send_edge, all_sent, sends_in, sends, visited_to, change_of, followed_by, changes_of, change_at, change_to}
 use Rattle.gw_settle.specs.Keeps.{sets_return, IsKindGrounded, IsGrounded, absent, IsWell, AreSound, IsIdle, IsIdleAt, IsSettled}
 use Rattle.gw_settle.proofs.Size.{BlocksBelow, row_size, join_smaller}
 use Rattle.gw_settle.proofs.Rows.{absent_same, fewer_sent}
@@ -92,29 +92,29 @@ kind_below p q None h = tt
 kind_below p q (Some Num) h = tt
 kind_below p q (Some (Ret bs)) h = λ b has. call_within p b q (block_at p.blocks b) refl (h.each b has)
 
-falls_if : (p : Parts) (stays : Bool) (e : FlowEdge) (row : Row) (rows : TableRows) → IsGrounded p e.state → as_table p rows e.target ≡ Some row → is_within e.state row ≡ stays → Falls (length p.blocks + 1) (if stays then Same else Less) rows (sent p e rows)
+falls_if : (p : Parts) (stays : Bool) (e : FlowEdge) (row : Row) (rows : TableRows) → IsGrounded p e.state → as_table p rows e.target ≡ Some row → is_within e.state row ≡ stays → Falls (length p.blocks + 1) (if stays then Same else Less) rows (send_edge p e rows)
 falls_if p true e row rows g is within = same_to p e.state row e.target rows is (rw within refl)
 falls_if p false e row rows g is within = less_to p (length p.blocks + 1) e.state row e.target rows is (rw within (join_smaller (length p.blocks + 1) row e.state (λ q. kind_below p q (kind_of e.state q) (g q)) within))
 
-falls_row : (p : Parts) (e : FlowEdge) (row : Option Row) (rows : TableRows) → AreSound p rows → MaySend p rows e → as_table p rows e.target ≡ row → Falls (length p.blocks + 1) (change_of e.state row) rows (sent p e rows)
+falls_row : (p : Parts) (e : FlowEdge) (row : Option Row) (rows : TableRows) → AreSound p rows → MaySend p rows e → as_table p rows e.target ≡ row → Falls (length p.blocks + 1) (change_of e.state row) rows (send_edge p e rows)
 falls_row p e None rows sound may is = fewer_sent p e rows may.enters sound.shape is
 falls_row p e (Some row) rows sound may is = falls_if p (is_within e.state row) e row rows may.grounded is refl
 
-falls_sent : (p : Parts) (e : FlowEdge) (rows : TableRows) → AreSound p rows → MaySend p rows e → Falls (length p.blocks + 1) (change_of e.state (as_table p rows e.target)) rows (sent p e rows)
+falls_sent : (p : Parts) (e : FlowEdge) (rows : TableRows) → AreSound p rows → MaySend p rows e → Falls (length p.blocks + 1) (change_of e.state (as_table p rows e.target)) rows (send_edge p e rows)
 falls_sent p e rows sound may = falls_row p e (as_table p rows e.target) rows sound may refl
 
 -- SEVERAL
 
-all_still : (p : Parts) (d : FlowEdge) (es : List FlowEdge) (rows : TableRows) → All (MaySend p rows) es → All (MaySend p (sent p d rows)) es
+all_still : (p : Parts) (d : FlowEdge) (es : List FlowEdge) (rows : TableRows) → All (MaySend p rows) es → All (MaySend p (send_edge p d rows)) es
 all_still p d es rows h = λ k e within. may_still p d _ rows (h k e within)
 
 falls_all : (p : Parts) (es : List FlowEdge) (rows : TableRows) → AreSound p rows → All (MaySend p rows) es → Falls (length p.blocks + 1) (changes_of p es rows) rows (all_sent p es rows)
 falls_all p [] rows sound h = refl
 falls_all p (e ∷ es) rows sound h =
     let may = All-head (MaySend p rows) e es h in
-    falls_on (length p.blocks + 1) (change_of e.state (as_table p rows e.target)) (changes_of p es (sent p e rows)) rows (sent p e rows) (all_sent p es (sent p e rows))
+    falls_on (length p.blocks + 1) (change_of e.state (as_table p rows e.target)) (changes_of p es (send_edge p e rows)) rows (send_edge p e rows) (all_sent p es (send_edge p e rows))
     (falls_sent p e rows sound may)
-    (falls_all p es (sent p e rows) (sound_sent p e rows sound may) (all_still p e es rows (All-tail (MaySend p rows) e es h)))
+    (falls_all p es (send_edge p e rows) (sound_sent p e rows sound may) (all_still p e es rows (All-tail (MaySend p rows) e es h)))
 
 -- what falls in visits of the blocks up to a number
 pub falls_to : (p : Parts) (k : ℕ) (rows : TableRows) → IsWell p → AreSound p rows → Falls (length p.blocks + 1) (change_to p k rows) rows (visited_to p k rows)
@@ -157,10 +157,10 @@ falls_same n c s t is h = subst (λ d. Falls n d s t) is h
 idle_all : (p : Parts) (es : List FlowEdge) (rows : TableRows) → AreSound p rows → All (MaySend p rows) es → changes_of p es rows ≡ Same → All (IsIdle (as_table p rows)) es
 idle_all p [] rows sound h is = All-nil (IsIdle (as_table p rows))
 idle_all p (e ∷ es) rows sound h is =
-    let both = both_same (change_of e.state (as_table p rows e.target)) (changes_of p es (sent p e rows)) is in
+    let both = both_same (change_of e.state (as_table p rows e.target)) (changes_of p es (send_edge p e rows)) is in
     let may = All-head (MaySend p rows) e es h in
-    let stays = falls_same (length p.blocks + 1) (change_of e.state (as_table p rows e.target)) rows (sent p e rows) both.0 (falls_sent p e rows sound may) in
-    let later = idle_all p es (sent p e rows) (sound_sent p e rows sound may) (all_still p e es rows (All-tail (MaySend p rows) e es h)) both.1 in
+    let stays = falls_same (length p.blocks + 1) (change_of e.state (as_table p rows e.target)) rows (send_edge p e rows) both.0 (falls_sent p e rows sound may) in
+    let later = idle_all p es (send_edge p e rows) (sound_sent p e rows sound may) (all_still p e es rows (All-tail (MaySend p rows) e es h)) both.1 in
     All-cons (IsIdle (as_table p rows)) e es (idle_row e.state (as_table p rows e.target) both.0) (subst (λ r. All (IsIdle (as_table p r)) es) stays later)
 
 -- the blocks up to a number send nothing that changes the table

@@ -8,7 +8,7 @@ use Rattle.std.proofs.lemmas.Bool.{cases_eq, cases_order, eqb-true, eq-eqb, ne_e
 use Rattle.gw_rules.specs.Entries.{entry, lists}
 use Rattle.gw_rules.specs.Rows.{ParamKind, Num, Ret, Row, kind_of, units_of, nonzero, kind_fits}
 use Rattle.gw_rules.proofs.Fitting.{included}
-use Rattle.gw_settle.specs.Joins.{one, keep, united, joined_kind, joined, JoinIsBelowBoth, JoinIsGreatest}
+use Rattle.gw_settle.specs.Joins.{one, keep, union_of, joined_kind, join_rows, JoinIsBelowBoth, JoinIsGreatest}
 
 -- SETS
 
@@ -31,24 +31,24 @@ placed m b has also =
     (cases_order b m)
 
 -- a number is in the union where it is in either list
-pub lists-united : (ns ms : List ℕ) (b : ℕ) → lists (united ns ms) b ≡ (lists ns b || lists ms b)
+pub lists-united : (ns ms : List ℕ) (b : ℕ) → lists (union_of ns ms) b ≡ (lists ns b || lists ms b)
 lists-united ns [] b = sym (or_false (lists ns b))
 lists-united ns (m ∷ ms) b =
     let below = any-filter_same (λ x. x == b) (λ x. nat_lt x m) (nat_lt b m) (λ k (is : (k == b) ≡ true). ap (λ x. nat_lt x m) (eqb-true k b is)) ns in
     let over = any-filter_same (λ x. x == b) (λ x. nat_lt m x) (nat_lt m b) (λ k (is : (k == b) ≡ true). ap (λ x. nat_lt m x) (eqb-true k b is)) ns in
-    list_any-append (λ x. x == b) (filter (λ y. nat_lt y m) ns) (m ∷ united (filter (λ y. nat_lt m y) ns) ms)
-    ∙ ap (λ x. x || ((m == b) || lists (united (filter (λ y. nat_lt m y) ns) ms) b)) below
+    list_any-append (λ x. x == b) (filter (λ y. nat_lt y m) ns) (m ∷ union_of (filter (λ y. nat_lt m y) ns) ms)
+    ∙ ap (λ x. x || ((m == b) || lists (union_of (filter (λ y. nat_lt m y) ns) ms) b)) below
     ∙ ap (λ x. (nat_lt b m && lists ns b) || ((m == b) || x)) (lists-united (filter (λ y. nat_lt m y) ns) ms b)
     ∙ ap (λ x. (nat_lt b m && lists ns b) || ((m == b) || (x || lists ms b))) over
     ∙ placed m b (lists ns b) (lists ms b)
 
-pub in_left : (ns ms : List ℕ) (b : ℕ) → lists ns b ≡ true → lists (united ns ms) b ≡ true
+pub in_left : (ns ms : List ℕ) (b : ℕ) → lists ns b ≡ true → lists (union_of ns ms) b ≡ true
 in_left ns ms b has = lists-united ns ms b ∙ or_left (lists ns b) (lists ms b) has
 
-pub in_right : (ns ms : List ℕ) (b : ℕ) → lists ms b ≡ true → lists (united ns ms) b ≡ true
+pub in_right : (ns ms : List ℕ) (b : ℕ) → lists ms b ≡ true → lists (union_of ns ms) b ≡ true
 in_right ns ms b has = lists-united ns ms b ∙ or_right (lists ns b) (lists ms b) has
 
-pub in_either : (ns ms : List ℕ) (b : ℕ) → lists (united ns ms) b ≡ true → (lists ns b ≡ true) ⊎ (lists ms b ≡ true)
+pub in_either : (ns ms : List ℕ) (b : ℕ) → lists (union_of ns ms) b ≡ true → (lists ns b ≡ true) ⊎ (lists ms b ≡ true)
 in_either ns ms b has = or_cases (lists ns b) (lists ms b) (sym (lists-united ns ms b) ∙ has)
 
 pub included_from : (bs cs : List ℕ) → ((b : ℕ) → lists bs b ≡ true → lists cs b ≡ true) → list_all (λ b. lists cs b) bs ≡ true
@@ -91,7 +91,7 @@ only_joined None None = refl
 only_joined None (Some l) = refl
 only_joined (Some k) l = refl
 
-pub kind_joined : (row state : Row) (p : ℕ) → kind_of (joined row state) p ≡ joined_kind (kind_of row p) (kind_of state p)
+pub kind_joined : (row state : Row) (p : ℕ) → kind_of (join_rows row state) p ≡ joined_kind (kind_of row p) (kind_of state p)
 kind_joined row state p = entry-keep (λ q. joined_kind (kind_of row q) (kind_of state q)) row.params p ∙ only_joined (kind_of row p) (kind_of state p)
 
 pub nonzero_is : (n : ℕ) → unwrap_or (nonzero n) 0 ≡ n
@@ -105,7 +105,7 @@ amount_kept : (o : Option ℕ) (n : ℕ) → unwrap_or (only_if o (nonzero (min 
 amount_kept None n = omega arith
 amount_kept (Some m) n = nonzero_is (min m n)
 
-pub units_joined : (row state : Row) (e : ℕ) → units_of (joined row state) e ≡ min (units_of row e) (units_of state e)
+pub units_joined : (row state : Row) (e : ℕ) → units_of (join_rows row state) e ≡ min (units_of row e) (units_of state e)
 units_joined row state e = ap (λ o. unwrap_or o 0) (entry-keep (λ x. nonzero (min (units_of row x) (units_of state x))) row.units e) ∙ amount_kept (entry row.units e) (units_of state e)
 
 -- KINDS
@@ -119,15 +119,15 @@ each_fits (Some Num) (Some (Ret cs)) = (refl, refl)
 each_fits (Some (Ret bs)) None = (refl, refl)
 each_fits (Some (Ret bs)) (Some Num) = (refl, refl)
 each_fits (Some (Ret bs)) (Some (Ret cs)) = (
-  included_from bs (united bs cs) (λ b has. in_left bs cs b has),
-  included_from cs (united bs cs) (λ b has. in_right bs cs b has),
+  included_from bs (union_of bs cs) (λ b has. in_left bs cs b has),
+  included_from cs (union_of bs cs) (λ b has. in_right bs cs b has),
 )
 
 both_fit : (k l o : Option ParamKind) → IsTrue (kind_fits k o) → IsTrue (kind_fits l o) → IsTrue (kind_fits (joined_kind k l) o)
 both_fit k l None h g = refl
 both_fit (Some Num) (Some Num) (Some Num) h g = refl
 both_fit (Some (Ret bs)) (Some (Ret cs)) (Some (Ret ds)) h g =
-    included_from (united bs cs) ds (λ b has. ⊎_elim (λ (x : lists bs b ≡ true). included bs ds h b x) (λ (x : lists cs b ≡ true). included cs ds g b x) (in_either bs cs b has))
+    included_from (union_of bs cs) ds (λ b has. ⊎_elim (λ (x : lists bs b ≡ true). included bs ds h b x) (λ (x : lists cs b ≡ true). included cs ds g b x) (in_either bs cs b has))
 both_fit None l (Some o) h g = absurd (false≢true h)
 both_fit (Some Num) None (Some o) h g = absurd (false≢true g)
 both_fit (Some (Ret bs)) None (Some o) h g = absurd (false≢true g)

@@ -30,8 +30,8 @@ use Rattle.gw_rules.specs.Entries.{lists}
 use Rattle.gw_rules.specs.Rows.{Row, ParamKind, Num, Ret, kind_of, units_of, return_blocks, nothing_known, parameters_alone, HasRoom, Fits}
 use Rattle.gw_rules.specs.Blocks.{Table, Rule, rules, after, edges}
 use Rattle.gw_rules.specs.Flow.{FlowPasses}
-use Rattle.gw_settle.specs.Joins.{is_within, joined_kind, joined, with_state}
-use Rattle.gw_settle.specs.Rounds.{TableRows, as_table, sent, all_sent, sends_in, sends, visited, visited_to, start_row, start}
+use Rattle.gw_settle.specs.Joins.{is_within, joined_kind, join_rows, with_state}
+use Rattle.gw_settle.specs.Rounds.{TableRows, as_table, send_edge, all_sent, sends_in, sends, visit_block, visited_to, start_row, start}
 use Rattle.gw_settle.specs.Keeps.{NoneChanged, IsOnePlace, IsByPlace, IsBelow, may_enter, MayEnter, sets_return, IsKindGrounded, IsGrounded, IsNamed, KindNamesCalls, NamesCalls, absent, HasFew, IsGood, HasShape, IsWell, AreSound, AreKept}
 use Rattle.gw_settle.proofs.Joining.{units_joined}
 use Rattle.gw_settle.proofs.Ordering.{keep_all, given_all}
@@ -66,11 +66,11 @@ below_if : (row there : Option Row) → IsBelow row there → IfSome row (λ r. 
 below_if None there h = tt
 below_if (Some row) there h = h
 
-fits_both : (there : Option Row) (row state : Row) → IsSomeAnd there (Fits row) → IsSomeAnd there (Fits state) → IsSomeAnd there (Fits (joined row state))
+fits_both : (there : Option Row) (row state : Row) → IsSomeAnd there (Fits row) → IsSomeAnd there (Fits state) → IsSomeAnd there (Fits (join_rows row state))
 fits_both None row state h g = h
 fits_both (Some other) row state h g = fits_joined row state other h g
 
-named_joined : (es : List Entity) (row state : Row) → IsNamed es row → IsNamed es (joined row state)
+named_joined : (es : List Entity) (row state : Row) → IsNamed es row → IsNamed es (join_rows row state)
 named_joined es row state h = record { facilities = h.facilities; units = keep_all (λ e. IsEntity es (needs StorageOrQueue e)) _ row.units h.units }
 
 -- a block that keeps a return in a parameter calls a subroutine
@@ -87,7 +87,7 @@ kind_calls : (p : Parts) (q : ℕ) (kind : ParamKind) → IsKindGrounded p q (So
 kind_calls p q Num h = tt
 kind_calls p q (Ret bs) h = all_listed (λ b. is_call_at p.blocks b ≡ true) bs (λ b has. is_called (block_at p.blocks b) q (h.each b has))
 
-calls_joined : (p : Parts) (row state : Row) → IsGrounded p row → IsGrounded p state → NamesCalls p.blocks (joined row state)
+calls_joined : (p : Parts) (row state : Row) → IsGrounded p row → IsGrounded p state → NamesCalls p.blocks (join_rows row state)
 calls_joined p row state h g =
     given_all (KindNamesCalls p.blocks) (λ n. joined_kind (kind_of row n) (kind_of state n)) row.params
     (λ n v is. kind_calls p n v (subst (IsKindGrounded p n) is (grounded_kinds p n (kind_of row n) (kind_of state n) (h n) (g n))))
@@ -115,7 +115,7 @@ module _ (p : Parts) (e : FlowEdge) (rows : TableRows) (sound : AreSound p rows)
   s = as_table p rows
 
   abbrev s' : Table
-  s' = as_table p (sent p e rows)
+  s' = as_table p (send_edge p e rows)
 
   looked : (x : Target) → (s' x ≡ s x) ⊎ (IsOnePlace p.entities e.target x × (s' x ≡ Some (with_state e.state (s x))))
   looked = lookup_sent p e rows may.enters sound.shape
@@ -134,32 +134,32 @@ module _ (p : Parts) (e : FlowEdge) (rows : TableRows) (sound : AreSound p rows)
       subst (λ row. IfSome row (IsNamed p.entities)) (sym q.1) (with_state_has (IsNamed p.entities) e.state (s x) (sound.named x) may.named (λ r h g. named_joined p.entities r e.state h)))
       (looked x)
 
-  calls_sent : All (λ row. IfSome row (NamesCalls p.blocks)) (sent p e rows).blocks × All (λ row. IfSome row (NamesCalls p.blocks)) (sent p e rows).chains
+  calls_sent : All (λ row. IfSome row (NamesCalls p.blocks)) (send_edge p e rows).blocks × All (λ row. IfSome row (NamesCalls p.blocks)) (send_edge p e rows).chains
   calls_sent =
       all_sent_to p (NamesCalls p.blocks) e.state e.target rows sound.block_calls sound.chain_calls
       (with_state_has (CallsWell p) e.state (s e.target)
       (calls_well p (s e.target) (calls_at p rows sound e.target) (sound.grounded e.target)) (may.calls, may.grounded)
       (λ r h g. (calls_joined p r e.state h.1 g.1, grounded_joined p r e.state h.1 g.1))).0
 
-  few_still : (row : Option Row) → IfSome row (HasFew p rows) → IfSome row (HasFew p (sent p e rows))
+  few_still : (row : Option Row) → IfSome row (HasFew p rows) → IfSome row (HasFew p (send_edge p e rows))
   few_still None h = tt
   few_still (Some row) h = λ q. omega (arith, h q, absent_sent p e rows)
 
-  few_row : (row : Option Row) → s e.target ≡ row → IfSome row (HasFew p rows) → HasFew p (sent p e rows) (with_state e.state row)
+  few_row : (row : Option Row) → s e.target ≡ row → IfSome row (HasFew p rows) → HasFew p (send_edge p e rows) (with_state e.state row)
   few_row None is h = λ q. omega (arith, may.nearly q, fewer_sent p e rows may.enters sound.shape is)
   few_row (Some row) is h =
-      if_has (HasFew p (sent p e rows)) (is_within e.state row) row (joined row e.state)
+      if_has (HasFew p (send_edge p e rows)) (is_within e.state row) row (join_rows row e.state)
       (λ q. omega (arith, h q, absent_sent p e rows))
       (λ q. omega (arith, h q, absent_sent p e rows, units_joined row e.state q))
 
-  few_sent : (x : Target) → IfSome (s' x) (HasFew p (sent p e rows))
+  few_sent : (x : Target) → IfSome (s' x) (HasFew p (send_edge p e rows))
   few_sent x = ⊎_elim
-      (λ (q : s' x ≡ s x). subst (λ row. IfSome row (HasFew p (sent p e rows))) (sym q) (few_still (s x) (sound.few x)))
+      (λ (q : s' x ≡ s x). subst (λ row. IfSome row (HasFew p (send_edge p e rows))) (sym q) (few_still (s x) (sound.few x)))
       (λ (q : IsOnePlace p.entities e.target x × (s' x ≡ Some (with_state e.state (s x)))).
-      subst (λ row. IfSome row (HasFew p (sent p e rows))) (sym q.1) (few_row (s x) (by_place p rows e.target x q.0) (sound.few x)))
+      subst (λ row. IfSome row (HasFew p (send_edge p e rows))) (sym q.1) (few_row (s x) (by_place p rows e.target x q.0) (sound.few x)))
       (looked x)
 
-  pub sound_sent : AreSound p (sent p e rows)
+  pub sound_sent : AreSound p (send_edge p e rows)
   sound_sent = record { shape = shape_sent p e rows sound.shape; grounded = grounded_sent; named = named_sent; block_calls = calls_sent.0; chain_calls = calls_sent.1; few = few_sent }
 
 module _ (p : Parts) (e : FlowEdge) (rows : TableRows) (kept : AreKept p rows) (may : MaySend p rows e) (fit : FitsEach p e) where
@@ -167,9 +167,9 @@ module _ (p : Parts) (e : FlowEdge) (rows : TableRows) (kept : AreKept p rows) (
   before = as_table p rows
 
   abbrev next : Table
-  next = as_table p (sent p e rows)
+  next = as_table p (send_edge p e rows)
 
-  sound_after : AreSound p (sent p e rows)
+  sound_after : AreSound p (send_edge p e rows)
   sound_after = sound_sent p e rows (sound_if_kept p rows kept) may
 
   good_sent : IsGood p next
@@ -189,25 +189,25 @@ module _ (p : Parts) (e : FlowEdge) (rows : TableRows) (kept : AreKept p rows) (
         (lookup_sent p e rows may.enters kept.shape x);
   }
 
-  pub kept_sent : AreKept p (sent p e rows)
+  pub kept_sent : AreKept p (send_edge p e rows)
   kept_sent = record { shape = sound_after.shape; good = good_sent; named = sound_after.named; block_calls = sound_after.block_calls; chain_calls = sound_after.chain_calls; few = sound_after.few }
 
 -- what may be sent may be sent after another edge was
-pub may_still : (p : Parts) (d e : FlowEdge) (rows : TableRows) → MaySend p rows e → MaySend p (sent p d rows) e
+pub may_still : (p : Parts) (d e : FlowEdge) (rows : TableRows) → MaySend p rows e → MaySend p (send_edge p d rows) e
 may_still p d e rows h = record { grounded = h.grounded; enters = h.enters; named = h.named; calls = h.calls; nearly = λ q. omega (arith, h.nearly q, absent_sent p d rows) }
 
 -- several edges
-may_still_all : (p : Parts) (e : FlowEdge) (es : List FlowEdge) (rows : TableRows) → All (MaySend p rows) (e ∷ es) → All (MaySend p (sent p e rows)) es
-may_still_all p e es rows h = All-weaker (MaySend p rows) (MaySend p (sent p e rows)) (λ d g. may_still p e d rows g) es (All-tail (MaySend p rows) e es h)
+may_still_all : (p : Parts) (e : FlowEdge) (es : List FlowEdge) (rows : TableRows) → All (MaySend p rows) (e ∷ es) → All (MaySend p (send_edge p e rows)) es
+may_still_all p e es rows h = All-weaker (MaySend p rows) (MaySend p (send_edge p e rows)) (λ d g. may_still p e d rows g) es (All-tail (MaySend p rows) e es h)
 
 pub sound_all : (p : Parts) (es : List FlowEdge) (rows : TableRows) → AreSound p rows → All (MaySend p rows) es → AreSound p (all_sent p es rows)
 sound_all p [] rows sound h = sound
-sound_all p (e ∷ es) rows sound h = sound_all p es (sent p e rows) (sound_sent p e rows sound (All-head (MaySend p rows) e es h)) (may_still_all p e es rows h)
+sound_all p (e ∷ es) rows sound h = sound_all p es (send_edge p e rows) (sound_sent p e rows sound (All-head (MaySend p rows) e es h)) (may_still_all p e es rows h)
 
 pub kept_all : (p : Parts) (es : List FlowEdge) (rows : TableRows) → AreKept p rows → All (MaySend p rows) es → All (FitsEach p) es → AreKept p (all_sent p es rows)
 kept_all p [] rows kept h fit = kept
 kept_all p (e ∷ es) rows kept h fit =
-    kept_all p es (sent p e rows) (kept_sent p e rows kept (All-head (MaySend p rows) e es h) (All-head (FitsEach p) e es fit)) (may_still_all p e es rows h) (All-tail (FitsEach p) e es fit)
+    kept_all p es (send_edge p e rows) (kept_sent p e rows kept (All-head (MaySend p rows) e es h) (All-head (FitsEach p) e es fit)) (may_still_all p e es rows h) (All-tail (FitsEach p) e es fit)
 
 -- WHAT KINDS GIVE
 
@@ -306,10 +306,10 @@ sends_fit p b rows kept = sends_fit_in p b (block_at p.blocks b) (as_table p row
 
 -- ROUNDS
 
-pub visits_keep : (p : Parts) (b : ℕ) (rows : TableRows) → IsWell p → AreKept p rows → AreKept p (visited p b rows)
+pub visits_keep : (p : Parts) (b : ℕ) (rows : TableRows) → IsWell p → AreKept p rows → AreKept p (visit_block p b rows)
 visits_keep p b rows well kept = kept_all p (sends p (as_table p rows) b) rows kept (sends_may p b rows well (sound_if_kept p rows kept)) (sends_fit p b rows kept)
 
-visit_sound : (p : Parts) (b : ℕ) (rows : TableRows) → IsWell p → AreSound p rows → AreSound p (visited p b rows)
+visit_sound : (p : Parts) (b : ℕ) (rows : TableRows) → IsWell p → AreSound p rows → AreSound p (visit_block p b rows)
 visit_sound p b rows well sound = sound_all p (sends p (as_table p rows) b) rows sound (sends_may p b rows well sound)
 
 pub visited_sound : (p : Parts) (k : ℕ) (rows : TableRows) → IsWell p → AreSound p rows → AreSound p (visited_to p k rows)

@@ -19,7 +19,7 @@ use Rattle.gw_object.specs.declared.parts.Parts.{Parts}
 use Rattle.gw_object.specs.Entities.{is_chain}
 use Rattle.gw_rules.specs.declared.entities.Named.{Named}
 use Rattle.gw_rules.specs.declared.entities.EntityKind.TheVariants.{Facility, StorageOrQueue}
-use Rattle.gw_rules.specs.Checks.{Check, first_broken, numbered}
+use Rattle.gw_rules.specs.Checks.{Check, first_broken, checks_by_number}
 use Rattle.gw_operands.specs.Sources.{kind_at}
 use Rattle.gw_rules.specs.Kinds.{needs, serves_as, is_there, is_no_other_kind, names_no_other_kind, are_there, entities_of_row, return_row_of, has_return_rows, is_call_at, names_calls, chain_row, return_checks, row_checks, chain_checks, entity_checks, block_checks}
 use Rattle.gw_rules.specs.KindsLaws.{IsEntity}
@@ -45,9 +45,9 @@ hold_parts cs ds h = both_none (first_broken cs) (first_broken ds) (sym (first_b
 hold_both : (cs ds : List Check) → Hold cs → Hold ds → Hold (cs ++ ds)
 hold_both cs ds h g = first_broken-append cs ds ∙ rw (h, g) refl
 
-hold_each : {A : Type 0} (f : ℕ → A → List Check) (P : A → Type 0) → ((n : ℕ) (x : A) → P x → Hold (f n x)) → (n : ℕ) (xs : List A) → All P xs → Hold (numbered f n xs)
+hold_each : {A : Type 0} (f : ℕ → A → List Check) (P : A → Type 0) → ((n : ℕ) (x : A) → P x → Hold (f n x)) → (n : ℕ) (xs : List A) → All P xs → Hold (checks_by_number f n xs)
 hold_each f P h n [] each = refl
-hold_each f P h n (x ∷ xs) each = hold_both (f n x) (numbered f (n + 1) xs) (h n x (All-head P x xs each)) (hold_each f P h (n + 1) xs (All-tail P x xs each))
+hold_each f P h n (x ∷ xs) each = hold_both (f n x) (checks_by_number f (n + 1) xs) (h n x (All-head P x xs each)) (hold_each f P h (n + 1) xs (All-tail P x xs each))
 
 all_true : {A : Type 0} (f : A → Bool) (xs : List A) → All (λ x. f x ≡ true) xs → list_all f xs ≡ true
 all_true f [] h = refl
@@ -105,9 +105,9 @@ chain_if : (c : Bool) (cs : List Check) → Hold cs → Hold (if c then cs else 
 chain_if true cs h = h
 chain_if false cs h = refl
 
-chains_hold : (p : Parts) → ((e : ℕ) → IfSome (chain_row p e) (IsRowWell p.entities (length p.returns))) → (n : ℕ) (es : List Entity) → Hold (numbered (chain_checks p) n es)
+chains_hold : (p : Parts) → ((e : ℕ) → IfSome (chain_row p e) (IsRowWell p.entities (length p.returns))) → (n : ℕ) (es : List Entity) → Hold (checks_by_number (chain_checks p) n es)
 chains_hold p h n [] = refl
-chains_hold p h n (e ∷ es) = hold_both (chain_checks p n e) (numbered (chain_checks p) (n + 1) es) (chain_if (is_chain e.kind) (row_checks p (places.Chain n) (chain_row p n)) (row_holds p (places.Chain n) (chain_row p n) (h n))) (chains_hold p h (n + 1) es)
+chains_hold p h n (e ∷ es) = hold_both (chain_checks p n e) (checks_by_number (chain_checks p) (n + 1) es) (chain_if (is_chain e.kind) (row_checks p (places.Chain n) (chain_row p n)) (row_holds p (places.Chain n) (chain_row p n) (h n))) (chains_hold p h (n + 1) es)
 
 -- kinds pass with a table whose rows are well
 pub kinds_with : (p : Parts) (returns : List ReturnRow) (states chain_states : List (Option TableState)) → KindsPass p →
@@ -118,20 +118,20 @@ pub kinds_with : (p : Parts) (returns : List ReturnRow) (states chain_states : L
 unfolding kinds_checks
 kinds_with p returns states chain_states passes calls rows chains =
     let q = with_table p returns states chain_states in
-    let entities = numbered (entity_checks p) 0 p.entities in
-    let procedures = numbered (procedure_checks p) 0 p.procedures in
-    let old_returns = numbered (return_checks p) 0 p.returns in
-    let old_states = numbered (λ b. row_checks p (places.Block b)) 1 p.states in
-    let old_chains = numbered (chain_checks p) 0 p.entities in
-    let bs = numbered (block_checks p) 1 p.blocks in
+    let entities = checks_by_number (entity_checks p) 0 p.entities in
+    let procedures = checks_by_number (procedure_checks p) 0 p.procedures in
+    let old_returns = checks_by_number (return_checks p) 0 p.returns in
+    let old_states = checks_by_number (λ b. row_checks p (places.Block b)) 1 p.states in
+    let old_chains = checks_by_number (chain_checks p) 0 p.entities in
+    let bs = checks_by_number (block_checks p) 1 p.blocks in
     let one = hold_parts entities (procedures ++ (old_returns ++ (old_states ++ (old_chains ++ bs)))) passes in
     let two = hold_parts procedures (old_returns ++ (old_states ++ (old_chains ++ bs))) one.1 in
     let three = hold_parts old_returns (old_states ++ (old_chains ++ bs)) two.1 in
     let four = hold_parts old_states (old_chains ++ bs) three.1 in
     let five = hold_parts old_chains bs four.1 in
-    let new_returns = numbered (return_checks q) 0 returns in
-    let new_states = numbered (λ b. row_checks q (places.Block b)) 1 states in
-    let new_chains = numbered (chain_checks q) 0 p.entities in
+    let new_returns = checks_by_number (return_checks q) 0 returns in
+    let new_states = checks_by_number (λ b. row_checks q (places.Block b)) 1 states in
+    let new_chains = checks_by_number (chain_checks q) 0 p.entities in
     hold_both entities (procedures ++ (new_returns ++ (new_states ++ (new_chains ++ bs)))) one.0
     (hold_both procedures (new_returns ++ (new_states ++ (new_chains ++ bs))) two.0
     (hold_both new_returns (new_states ++ (new_chains ++ bs)) (hold_each (return_checks q) (λ (row : ReturnRow). All (λ b. is_call_at p.blocks b ≡ true) row.blocks) (return_holds q) 0 returns calls)

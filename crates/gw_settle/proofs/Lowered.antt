@@ -7,8 +7,8 @@ use Rattle.gw_rules.specs.declared.edges.Target.{Target}
 use Rattle.gw_rules.specs.declared.edges.Target.TheVariants as targets
 use Rattle.gw_rules.specs.Blocks.{FlowEdge}
 use Rattle.gw_rules.specs.Rows.{Row, units_of}
-use Rattle.gw_settle.specs.Joins.{is_within, joined, with_state}
-use Rattle.gw_settle.specs.Rounds.{TableRows, as_table, sent_at, sent_to, sent, all_sent, sends, visited, visited_to}
+use Rattle.gw_settle.specs.Joins.{is_within, join_rows, with_state}
+use Rattle.gw_settle.specs.Rounds.{TableRows, as_table, sent_at, sent_to, send_edge, all_sent, sends, visit_block, visited_to}
 use Rattle.gw_settle.specs.Jumps.{row_in}
 use Rattle.gw_settle.proofs.Joining.{units_joined}
 
@@ -42,7 +42,7 @@ all_on a b c h g = record {
   chains = λ i. lower_on (row_in a.chains i) (row_in b.chains i) (row_in c.chains i) (h.chains i) (g.chains i);
 }
 
-lower_if : (stays : Bool) (state row : Row) → IsLower (Some (if stays then row else joined row state)) (Some row)
+lower_if : (stays : Bool) (state row : Row) → IsLower (Some (if stays then row else join_rows row state)) (Some row)
 lower_if true state row = λ e. omega arith
 lower_if false state row = λ e. omega (arith, units_joined row state e)
 
@@ -64,21 +64,21 @@ lower_to es state (targets.Chain e) rows = record { blocks = λ i. lower_itself 
 
 lower_all : (p : Parts) (es : List FlowEdge) (rows : TableRows) → AreLower (all_sent p es rows) rows
 lower_all p [] rows = all_itself rows
-lower_all p (e ∷ es) rows = all_on (all_sent p es (sent p e rows)) (sent p e rows) rows (lower_all p es (sent p e rows)) (lower_to p.entities e.state e.target rows)
+lower_all p (e ∷ es) rows = all_on (all_sent p es (send_edge p e rows)) (send_edge p e rows) rows (lower_all p es (send_edge p e rows)) (lower_to p.entities e.state e.target rows)
 
 -- visits lower a table's rows
 pub lower_visited : (p : Parts) (k : ℕ) (rows : TableRows) → AreLower (visited_to p k rows) rows
 lower_visited p zero rows = all_itself rows
 lower_visited p (suc k) rows =
     let before = visited_to p k rows in
-    all_on (visited p (suc k) before) before rows (lower_all p (sends p (as_table p before) (suc k)) before) (lower_visited p k rows)
+    all_on (visit_block p (suc k) before) before rows (lower_all p (sends p (as_table p before) (suc k)) before) (lower_visited p k rows)
 
 lower_past : (p : Parts) (d k : ℕ) (rows : TableRows) (m : ℕ) → d + k ≡ m → AreLower (visited_to p m rows) (visited_to p k rows)
 lower_past p zero k rows m is = let same : k ≡ m = omega (arith, is) in subst (λ n. AreLower (visited_to p n rows) (visited_to p k rows)) same (all_itself (visited_to p k rows))
 lower_past p (suc d) k rows zero is = absurd (omega (arith, is))
 lower_past p (suc d) k rows (suc m) is =
     let before = visited_to p m rows in
-    all_on (visited p (suc m) before) before (visited_to p k rows) (lower_all p (sends p (as_table p before) (suc m)) before) (lower_past p d k rows m (omega (arith, is)))
+    all_on (visit_block p (suc m) before) before (visited_to p k rows) (lower_all p (sends p (as_table p before) (suc m)) before) (lower_past p d k rows m (omega (arith, is)))
 
 -- also those that come later
 pub lower_later : (p : Parts) (k m : ℕ) (rows : TableRows) → k ≤ m → AreLower (visited_to p m rows) (visited_to p k rows)

@@ -23,8 +23,8 @@ use Rattle.gw_rules.specs.Blocks.{Table, Rule, rules, edges_from, joins, members
 use Rattle.gw_rules.proofs.Fitting.{fits_is_decided, fits_itself, fits_on}
 use Rattle.gw_settle.specs.declared.table.Change.{Change}
 use Rattle.gw_settle.specs.declared.table.Change.TheVariants.{Same, Less, More}
-use Rattle.gw_settle.specs.Joins.{is_within, Within, joined, with_state}
-use Rattle.gw_settle.specs.Rounds.{TableRows, as_table, sent_to, sent, all_sent, sends_in, sends, visited, change_of, changes_of, change_at}
+use Rattle.gw_settle.specs.Joins.{is_within, Within, join_rows, with_state}
+use Rattle.gw_settle.specs.Rounds.{TableRows, as_table, sent_to, send_edge, all_sent, sends_in, sends, visit_block, change_of, changes_of, change_at}
 use Rattle.gw_settle.specs.Keeps.{MayEnter, HasShape, IsWell, AreSound, IsIdle, IsIdleAt}
 use Rattle.gw_settle.specs.Marks.{is_marked, with_mark, MarksGrow, UnlinksMarked, MarksSuffice, MarksFollow}
 use Rattle.gw_settle.proofs.Joining.{join_is_below_both}
@@ -68,9 +68,9 @@ fallen_on r s t h g = λ x. row_on (r x) (s x) (t x) (h x) (g x)
 
 row_below : (state : Row) (o : Option Row) → IfSome o (λ row. Within row (with_state state o))
 row_below state None = tt
-row_below state (Some row) = if_has (Within row) (is_within state row) row (joined row state) (within_itself row) (join_is_below_both row state).0
+row_below state (Some row) = if_has (Within row) (is_within state row) row (join_rows row state) (within_itself row) (join_is_below_both row state).0
 
-idle_if_kept : (stays : Bool) (state row : Row) → is_within state row ≡ stays → Within state (if stays then row else joined row state)
+idle_if_kept : (stays : Bool) (state row : Row) → is_within state row ≡ stays → Within state (if stays then row else join_rows row state)
 idle_if_kept true state row is = within_true state row is
 idle_if_kept false state row is = (join_is_below_both row state).1
 
@@ -78,11 +78,11 @@ row_idle : (state : Row) (o : Option Row) → Within state (with_state state o)
 row_idle state None = within_itself state
 row_idle state (Some row) = idle_if_kept (is_within state row) state row refl
 
-pub fallen_sent : (p : Parts) (e : FlowEdge) (rows : TableRows) → MayEnter p e.target → HasShape p rows → IsFallen (as_table p rows) (as_table p (sent p e rows))
+pub fallen_sent : (p : Parts) (e : FlowEdge) (rows : TableRows) → MayEnter p e.target → HasShape p rows → IsFallen (as_table p rows) (as_table p (send_edge p e rows))
 fallen_sent p e rows m s x =
     let before = as_table p rows x in
     ⊎_elim
-    (λ (q : as_table p (sent p e rows) x ≡ before). subst (λ o. IfSome before (λ row. IsSomeAnd o (Within row))) (sym q) (row_itself before))
+    (λ (q : as_table p (send_edge p e rows) x ≡ before). subst (λ o. IfSome before (λ row. IsSomeAnd o (Within row))) (sym q) (row_itself before))
     (λ q. subst (λ o. IfSome before (λ row. IsSomeAnd o (Within row))) (sym q.1) (row_below e.state before))
     (lookup_sent p e rows m s x)
 
@@ -91,7 +91,7 @@ here_to p state (targets.Block zero) rows m s = absurd (false≢true m)
 here_to p state (targets.Block (suc k)) rows m s = at_place state k rows.blocks (omega (arith, s.blocks, block_within p k m))
 here_to p state (targets.Chain e) rows m s = at_place state (chain_place p.entities e) rows.chains (omega (arith, s.chains, m))
 
-idle_here : (p : Parts) (e : FlowEdge) (rows : TableRows) → MayEnter p e.target → HasShape p rows → IsIdle (as_table p (sent p e rows)) e
+idle_here : (p : Parts) (e : FlowEdge) (rows : TableRows) → MayEnter p e.target → HasShape p rows → IsIdle (as_table p (send_edge p e rows)) e
 idle_here p e rows m s = subst (λ o. IsSomeAnd o (Within e.state)) (sym (here_to p e.state e.target rows m s)) (row_idle e.state (as_table p rows e.target))
 
 row_idle_on : (state : Row) (a b : Option Row) → IfSome a (λ row. IsSomeAnd b (Within row)) → IsSomeAnd a (Within state) → IsSomeAnd b (Within state)
@@ -112,15 +112,15 @@ Enters p e = MayEnter p e.target
 pub fallen_all : (p : Parts) (es : List FlowEdge) (rows : TableRows) → All (Enters p) es → HasShape p rows → IsFallen (as_table p rows) (as_table p (all_sent p es rows))
 fallen_all p [] rows m s = fallen_itself (as_table p rows)
 fallen_all p (e ∷ es) rows m s =
-    fallen_on (as_table p rows) (as_table p (sent p e rows)) (as_table p (all_sent p es (sent p e rows)))
+    fallen_on (as_table p rows) (as_table p (send_edge p e rows)) (as_table p (all_sent p es (send_edge p e rows)))
     (fallen_sent p e rows (All-head (Enters p) e es m) s)
-    (fallen_all p es (sent p e rows) (All-tail (Enters p) e es m) (shape_sent p e rows s))
+    (fallen_all p es (send_edge p e rows) (All-tail (Enters p) e es m) (shape_sent p e rows s))
 
 -- once edges were sent they change nothing more
 pub idle_all : (p : Parts) (es : List FlowEdge) (rows : TableRows) → All (Enters p) es → HasShape p rows → All (IsIdle (as_table p (all_sent p es rows))) es
 idle_all p [] rows m s = All-nil (IsIdle (as_table p rows))
 idle_all p (e ∷ es) rows m s =
-    let next = sent p e rows in
+    let next = send_edge p e rows in
     let later = all_sent p es next in
     let others = All-tail (Enters p) e es m in
     let shape = shape_sent p e rows s in
@@ -138,13 +138,13 @@ within_is state row h =
     let second = and_parts (params_fit state.params row.params) (pointwise nat_eq row.facilities row.facilities) first.0 in
     and_from (params_fit state.params row.params) (units_fit state.units row.units) second.0 first.1
 
-none_changed_in : (p : Parts) (e : FlowEdge) (rows : TableRows) (o : Option Row) → as_table p rows e.target ≡ o → IsSomeAnd o (Within e.state) → (sent p e rows ≡ rows) × (change_of e.state o ≡ Same)
+none_changed_in : (p : Parts) (e : FlowEdge) (rows : TableRows) (o : Option Row) → as_table p rows e.target ≡ o → IsSomeAnd o (Within e.state) → (send_edge p e rows ≡ rows) × (change_of e.state o ≡ Same)
 none_changed_in p e rows None is h = absurd h
 none_changed_in p e rows (Some row) is h =
     let within = within_is e.state row h in
     (same_to p e.state row e.target rows is (rw within refl), rw within refl)
 
-none_changed : (p : Parts) (e : FlowEdge) (rows : TableRows) → IsIdle (as_table p rows) e → (sent p e rows ≡ rows) × (change_of e.state (as_table p rows e.target) ≡ Same)
+none_changed : (p : Parts) (e : FlowEdge) (rows : TableRows) → IsIdle (as_table p rows) e → (send_edge p e rows ≡ rows) × (change_of e.state (as_table p rows e.target) ≡ Same)
 none_changed p e rows h = none_changed_in p e rows (as_table p rows e.target) refl h
 
 -- edges that are idle change nothing
@@ -152,10 +152,10 @@ pub idle_changes_none : (p : Parts) (es : List FlowEdge) (rows : TableRows) → 
 idle_changes_none p [] rows h = (refl, refl)
 idle_changes_none p (e ∷ es) rows h =
     let one = none_changed p e rows (All-head (IsIdle (as_table p rows)) e es h) in
-    let rest = idle_changes_none p es (sent p e rows) (subst (λ r. All (IsIdle (as_table p r)) es) (sym one.0) (All-tail (IsIdle (as_table p rows)) e es h)) in
+    let rest = idle_changes_none p es (send_edge p e rows) (subst (λ r. All (IsIdle (as_table p r)) es) (sym one.0) (All-tail (IsIdle (as_table p rows)) e es h)) in
     (rest.0 ∙ one.0, rw one.1 rest.1)
 
-pub same_stays : (p : Parts) (e : FlowEdge) (rows : TableRows) → change_of e.state (as_table p rows e.target) ≡ Same → sent p e rows ≡ rows
+pub same_stays : (p : Parts) (e : FlowEdge) (rows : TableRows) → change_of e.state (as_table p rows e.target) ≡ Same → send_edge p e rows ≡ rows
 same_stays p e rows h = (none_changed p e rows (idle_row e.state (as_table p rows e.target) h)).0
 
 -- WHAT A BLOCK SENDS
@@ -311,7 +311,7 @@ module _ (p : Parts) where
       (h.each b)
 
   -- a block that isn't marked changes nothing
-  pub unmarked_changes_none : (marks : List Bool) (rows : TableRows) (b : ℕ) → MarksSuffice p marks rows → is_marked marks b ≡ false → (visited p b rows ≡ rows) × (change_at p b rows ≡ Same)
+  pub unmarked_changes_none : (marks : List Bool) (rows : TableRows) (b : ℕ) → MarksSuffice p marks rows → is_marked marks b ≡ false → (visit_block p b rows ≡ rows) × (change_at p b rows ≡ Same)
   unmarked_changes_none marks rows b h is = idle_changes_none p (sends p (as_table p rows) b) rows (idle_unmarked marks rows b h is)
 
   -- a block that would change nothing needs no mark
@@ -330,7 +330,7 @@ module _ (p : Parts) where
     before = as_table p rows
 
     abbrev next : Table
-    next = as_table p (visited p (suc k) rows)
+    next = as_table p (visit_block p (suc k) rows)
 
     fallen : IsFallen before next
     fallen = fallen_all p (sends p before (suc k)) rows (sends_enter p (suc k) rows well sound) sound.shape
@@ -346,13 +346,13 @@ module _ (p : Parts) where
     each_after b (inl q) = inl q
     each_after b (inr q) = inr (subst (All (IsIdle next)) (sym q.1) (still b q.0))
 
-    suffice_after : MarksFollow p (set marks k false) after before next → MarksSuffice p after (visited p (suc k) rows)
+    suffice_after : MarksFollow p (set marks k false) after before next → MarksSuffice p after (visit_block p (suc k) rows)
     suffice_after g = record { length = g.length ∙ length-set marks k false ∙ h.length; each = λ b. each_after b (g.each b) }
 
   -- and once one that is marked was visited
-  pub suffice_visited : (marks after : List Bool) (b : ℕ) (rows new : TableRows) → 1 ≤ b → IsWell p → AreSound p rows → MarksSuffice p marks rows → new ≡ visited p b rows → MarksFollow p (set marks (b - 1) false) after (as_table p rows) (as_table p new) → MarksSuffice p after new
+  pub suffice_visited : (marks after : List Bool) (b : ℕ) (rows new : TableRows) → 1 ≤ b → IsWell p → AreSound p rows → MarksSuffice p marks rows → new ≡ visit_block p b rows → MarksFollow p (set marks (b - 1) false) after (as_table p rows) (as_table p new) → MarksSuffice p after new
   suffice_visited marks after zero rows new first well sound h is g = absurd (omega (arith, first))
   suffice_visited marks after (suc k) rows new first well sound h is g =
       let place : suc k - 1 ≡ k = omega arith in
-      let follows : MarksFollow p (set marks k false) after (as_table p rows) (as_table p (visited p (suc k) rows)) = rw (place, is) at g in
+      let follows : MarksFollow p (set marks k false) after (as_table p rows) (as_table p (visit_block p (suc k) rows)) = rw (place, is) at g in
       rw is (suffice_after marks after k rows well sound h follows)

@@ -7,7 +7,7 @@ use Rattle.std.proofs.lemmas.Bool.{cases_eq, eq-eqb, ne_eqb, ltb-true}
 use Rattle.gw_rules.specs.Entries.{entry}
 use Rattle.gw_rules.specs.Rows.{ParamKind, Num, Ret, kind_of, units_of, nonzero, KindAscends}
 use Rattle.gw_flow.proofs.Ascending.{AllPairs-head, AllPairs-tail, AllPairs-append}
-use Rattle.gw_settle.specs.Joins.{one, keep, united, joined_kind, JoinIsOrdered}
+use Rattle.gw_settle.specs.Joins.{one, keep, union_of, joined_kind, JoinIsOrdered}
 
 -- what holds of each number holds of those that are kept
 kept_all : {X : Type 0} (P : ℕ → Type 0) (n : ℕ) (value : Option X) (es : List (ℕ × X)) → P n → All (λ e. P e.0) es → All (λ e. P e.0) (one n value ++ es)
@@ -49,12 +49,12 @@ found P (e ∷ es) n v each is =
     (cases_eq e.0 n)
 
 -- what holds of each number of both lists holds of each of the union
-pub united_all : (P : ℕ → Type 0) (ns ms : List ℕ) → All P ns → All P ms → All P (united ns ms)
+pub united_all : (P : ℕ → Type 0) (ns ms : List ℕ) → All P ns → All P ms → All P (union_of ns ms)
 united_all P ns [] h g = h
 united_all P ns (m ∷ ms) h g =
-    All-append P (filter (λ n. nat_lt n m) ns) (m ∷ united (filter (λ n. nat_lt m n) ns) ms)
+    All-append P (filter (λ n. nat_lt n m) ns) (m ∷ union_of (filter (λ n. nat_lt m n) ns) ms)
     (All-filter (λ n. nat_lt n m) P ns h)
-    (All-cons P m (united (filter (λ n. nat_lt m n) ns) ms) (All-head P m ms g)
+    (All-cons P m (union_of (filter (λ n. nat_lt m n) ns) ms) (All-head P m ms g)
     (united_all P (filter (λ n. nat_lt m n) ns) ms (All-filter (λ n. nat_lt m n) P ns h) (All-tail P m ms g)))
 
 -- those that a test keeps pass it
@@ -67,18 +67,18 @@ passing f P h [] = All-nil P
 passing f P h (n ∷ ns) = passing_if (f n) f P n ns (h n) (passing f P h ns)
 
 -- a union ascends
-pub united_ascends : (ns ms : List ℕ) → AllPairs (λ a b. a < b) ns → AllPairs (λ a b. a < b) ms → AllPairs (λ a b. a < b) (united ns ms)
+pub united_ascends : (ns ms : List ℕ) → AllPairs (λ a b. a < b) ns → AllPairs (λ a b. a < b) ms → AllPairs (λ a b. a < b) (union_of ns ms)
 united_ascends ns [] up also = up
 united_ascends ns (m ∷ ms) up also =
     let below = filter (λ n. nat_lt n m) ns in
     let above = filter (λ n. nat_lt m n) ns in
-    let over : All (λ n. m < n) (united above ms) = united_all (λ n. m < n) above ms (passing (λ n. nat_lt m n) (λ n. m < n) (λ n is. ltb-true m n is) ns) (AllPairs-head (λ a b. a < b) m ms also) in
-    AllPairs-append (λ a b. a < b) below (m ∷ united above ms)
+    let over : All (λ n. m < n) (union_of above ms) = united_all (λ n. m < n) above ms (passing (λ n. nat_lt m n) (λ n. m < n) (λ n is. ltb-true m n is) ns) (AllPairs-head (λ a b. a < b) m ms also) in
+    AllPairs-append (λ a b. a < b) below (m ∷ union_of above ms)
     (AllPairs-filter (λ a b. a < b) (λ n. nat_lt n m) ns up)
-    (AllPairs-cons (λ a b. a < b) m (united above ms) over
+    (AllPairs-cons (λ a b. a < b) m (union_of above ms) over
     (united_ascends above ms (AllPairs-filter (λ a b. a < b) (λ n. nat_lt m n) ns up) (AllPairs-tail (λ a b. a < b) m ms also)))
-    (All-weaker (λ n. n < m) (λ n. All (λ x. n < x) (m ∷ united above ms))
-    (λ n lt. All-cons (λ x. n < x) m (united above ms) lt (All-weaker (λ x. m < x) (λ x. n < x) (λ x gt. omega (arith, lt, gt)) (united above ms) over))
+    (All-weaker (λ n. n < m) (λ n. All (λ x. n < x) (m ∷ union_of above ms))
+    (λ n lt. All-cons (λ x. n < x) m (union_of above ms) lt (All-weaker (λ x. m < x) (λ x. n < x) (λ x gt. omega (arith, lt, gt)) (union_of above ms) over))
     below (passing (λ n. nat_lt n m) (λ n. n < m) (λ n is. ltb-true n m is) ns))
 
 kind_ascends : (k l : Option ParamKind) (v : ParamKind) → ((x : ParamKind) → k ≡ Some x → KindAscends x) → ((x : ParamKind) → l ≡ Some x → KindAscends x) → joined_kind k l ≡ Some v → KindAscends v
@@ -88,7 +88,7 @@ kind_ascends (Some Num) (Some Num) v up also is = let same : Num ≡ v = cc in s
 kind_ascends (Some Num) (Some (Ret cs)) v up also is = absurd (cc)
 kind_ascends (Some (Ret bs)) None v up also is = absurd (cc)
 kind_ascends (Some (Ret bs)) (Some Num) v up also is = absurd (cc)
-kind_ascends (Some (Ret bs)) (Some (Ret cs)) v up also is = let same : Ret (united bs cs) ≡ v = cc in subst KindAscends same (united_ascends bs cs (up (Ret bs) refl) (also (Ret cs) refl))
+kind_ascends (Some (Ret bs)) (Some (Ret cs)) v up also is = let same : Ret (union_of bs cs) ≡ v = cc in subst KindAscends same (united_ascends bs cs (up (Ret bs) refl) (also (Ret cs) refl))
 
 pub not_zero : (n v : ℕ) → nonzero n ≡ Some v → v ≢ 0
 not_zero n v is =

@@ -12,13 +12,13 @@ use Rattle.gw_rules.specs.declared.edges.Target.{Target}
 use Rattle.gw_rules.specs.declared.edges.Target.TheVariants as targets
 use Rattle.gw_rules.specs.Blocks.{FlowEdge}
 use Rattle.gw_rules.specs.Rows.{Row}
-use Rattle.gw_settle.specs.Joins.{is_within, joined, with_state}
-use Rattle.gw_settle.specs.Rounds.{TableRows, as_table, changed, sent_at, sent_to, sent}
+use Rattle.gw_settle.specs.Joins.{is_within, join_rows, with_state}
+use Rattle.gw_settle.specs.Rounds.{TableRows, as_table, with_change_at, sent_at, sent_to, send_edge}
 use Rattle.gw_settle.specs.Keeps.{IsOnePlace, IsByPlace, may_enter, MayEnter, absent_in, absent, HasShape}
 
 -- ONE LIST
 
-pub length-changed : {X : Type 0} (f : X → X) (k : ℕ) (xs : List X) → length (changed f k xs) ≡ length xs
+pub length-changed : {X : Type 0} (f : X → X) (k : ℕ) (xs : List X) → length (with_change_at f k xs) ≡ length xs
 length-changed f k [] = refl
 length-changed f zero (x ∷ xs) = refl
 length-changed f (suc k) (x ∷ xs) = omega (arith, length-changed f k xs)
@@ -95,7 +95,7 @@ lookup_to p state (targets.Chain c) (targets.Chain e) rows m s =
 
 -- one row is changed, or none
 pub lookup_sent : (p : Parts) (e : FlowEdge) (rows : TableRows) → MayEnter p e.target → HasShape p rows → (x : Target) →
-    (as_table p (sent p e rows) x ≡ as_table p rows x) ⊎ (IsOnePlace p.entities e.target x × (as_table p (sent p e rows) x ≡ Some (with_state e.state (as_table p rows x))))
+    (as_table p (send_edge p e rows) x ≡ as_table p rows x) ⊎ (IsOnePlace p.entities e.target x × (as_table p (send_edge p e rows) x ≡ Some (with_state e.state (as_table p rows x))))
 lookup_sent p e rows m s x = lookup_to p e.state e.target x rows m s
 
 shape_to : (p : Parts) (state : Row) (to : Target) (rows : TableRows) → HasShape p rows → HasShape p (sent_to p.entities state to rows)
@@ -103,7 +103,7 @@ shape_to p state (targets.Block zero) rows s = s
 shape_to p state (targets.Block (suc k)) rows s = record { blocks = length-changed (λ row. Some (with_state state row)) k rows.blocks ∙ s.blocks; chains = s.chains }
 shape_to p state (targets.Chain e) rows s = record { blocks = s.blocks; chains = length-changed (λ row. Some (with_state state row)) (chain_place p.entities e) rows.chains ∙ s.chains }
 
-pub shape_sent : (p : Parts) (e : FlowEdge) (rows : TableRows) → HasShape p rows → HasShape p (sent p e rows)
+pub shape_sent : (p : Parts) (e : FlowEdge) (rows : TableRows) → HasShape p rows → HasShape p (send_edge p e rows)
 shape_sent p e rows s = shape_to p e.state e.target rows s
 
 -- ABSENT ROWS
@@ -113,7 +113,7 @@ absent_to p state (targets.Block zero) rows = omega arith
 absent_to p state (targets.Block (suc k)) rows = omega (arith, absent_le state k rows.blocks)
 absent_to p state (targets.Chain e) rows = omega (arith, absent_le state (chain_place p.entities e) rows.chains)
 
-pub absent_sent : (p : Parts) (e : FlowEdge) (rows : TableRows) → absent (sent p e rows) ≤ absent rows
+pub absent_sent : (p : Parts) (e : FlowEdge) (rows : TableRows) → absent (send_edge p e rows) ≤ absent rows
 absent_sent p e rows = absent_to p e.state e.target rows
 
 fewer_to : (p : Parts) (state : Row) (to : Target) (rows : TableRows) → MayEnter p to → HasShape p rows → as_table p rows to ≡ None → absent (sent_to p.entities state to rows) < absent rows
@@ -121,7 +121,7 @@ fewer_to p state (targets.Block zero) rows m s none = absurd (false≢true m)
 fewer_to p state (targets.Block (suc k)) rows m s none = omega (arith, absent_lt state k rows.blocks (omega (arith, s.blocks, block_within p k m)) none)
 fewer_to p state (targets.Chain e) rows m s none = omega (arith, absent_lt state (chain_place p.entities e) rows.chains (omega (arith, s.chains, m)) none)
 
-pub fewer_sent : (p : Parts) (e : FlowEdge) (rows : TableRows) → MayEnter p e.target → HasShape p rows → as_table p rows e.target ≡ None → absent (sent p e rows) < absent rows
+pub fewer_sent : (p : Parts) (e : FlowEdge) (rows : TableRows) → MayEnter p e.target → HasShape p rows → as_table p rows e.target ≡ None → absent (send_edge p e rows) < absent rows
 fewer_sent p e rows m s none = fewer_to p e.state e.target rows m s none
 
 -- rows are a table by place
@@ -138,9 +138,9 @@ if_has P true row other h g = h
 if_has P false row other h g = g
 
 -- what holds of a row, of the state that came and of both joined holds of the row then
-pub with_state_has : (P : Row → Type 0) (state : Row) (row : Option Row) → IfSome row P → P state → ((r : Row) → P r → P state → P (joined r state)) → P (with_state state row)
+pub with_state_has : (P : Row → Type 0) (state : Row) (row : Option Row) → IfSome row P → P state → ((r : Row) → P r → P state → P (join_rows r state)) → P (with_state state row)
 with_state_has P state None h g join = g
-with_state_has P state (Some row) h g join = if_has P (is_within state row) row (joined row state) h (join row h g)
+with_state_has P state (Some row) h g join = if_has P (is_within state row) row (join_rows row state) h (join row h g)
 
 -- LISTS
 

@@ -18,7 +18,7 @@ use Rattle.gw_rules.specs.Flow.{rule_check}
 use Rattle.gw_settle.specs.declared.table.Change.{Change}
 use Rattle.gw_settle.specs.declared.table.Change.TheVariants.{Same, Less, More}
 use Rattle.gw_settle.specs.Joins.{is_within, with_state}
-use Rattle.gw_settle.specs.Rounds.{TableRows, as_table, sent_at, sent, all_sent, members_in, members_from, sends_in, sends, change_of, followed_by, changes_of}
+use Rattle.gw_settle.specs.Rounds.{TableRows, as_table, sent_at, send_edge, all_sent, members_in, members_from, sends_in, sends, change_of, followed_by, changes_of}
 use Rattle.gw_settle.specs.Keeps.{HasShape}
 use Rattle.gw_settle.proofs.Rows.{shape_sent}
 
@@ -113,10 +113,10 @@ pub record Sending (p : Parts) (all rest : List FlowEdge) (start now : TableRows
   pub shape : HasShape p now
 
 pub sending_more : (p : Parts) (all rest : List FlowEdge) (e : FlowEdge) (start now : TableRows) (change : Change) → Sending p all (e ∷ rest) start now change →
-    Sending p all rest start (sent p e now) (followed_by change (change_of e.state (as_table p now e.target)))
+    Sending p all rest start (send_edge p e now) (followed_by change (change_of e.state (as_table p now e.target)))
 sending_more p all rest e start now change h = record {
   rows = h.rows;
-  changes = followed_by_assoc change (change_of e.state (as_table p now e.target)) (changes_of p rest (sent p e now)) ∙ h.changes;
+  changes = followed_by_assoc change (change_of e.state (as_table p now e.target)) (changes_of p rest (send_edge p e now)) ∙ h.changes;
   shape = shape_sent p e now h.shape;
 }
 

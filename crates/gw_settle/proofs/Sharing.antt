@@ -24,7 +24,7 @@ use Rattle.gw_settle.specs.declared.passing.Like.{Like}
 use Rattle.gw_settle.specs.Joins.{is_within, with_state}
 use Rattle.gw_settle.specs.Keeps.{MayEnter, sets_return, IsIdle, IsIdleAt}
 use Rattle.gw_settle.specs.Marks.{MarksFollow}
-use Rattle.gw_settle.specs.Rounds.{rows_of, as_table, sent_at, all_sent, sends_in, sends, visited, change_of, followed_by, changes_of, change_at}
+use Rattle.gw_settle.specs.Rounds.{rows_of, as_table, sent_at, all_sent, sends_in, sends, visit_block, change_of, followed_by, changes_of, change_at}
 use Rattle.gw_settle.specs.Versions.{AreOf, AreAtMost, IsFound, AreVersions, HaveVersion, IsOneVersion, IsReturnAt, IsGiven, without_version, SaySameBut, Makes, IsSharing, moves_behind, sent_behind, change_behind, goes_on_to, blocks_behind, numbers_behind, rules_hold, SendsBehind}
 use Rattle.gw_settle.proofs.Rows.{length-changed, at_place, at_other, block_within}
 use Rattle.gw_settle.proofs.Falling.{same_rows}
@@ -421,13 +421,13 @@ module _ (p : Parts) (b : ℕ) (block : Block) (row : Row) (bs : List ℕ) (rows
   sent_if holds h = sym (sends_are p held b block row is has) ∙ behind held ∙ ap (λ x. if x then moves_behind row bs else []) h
 
   pub passed_visited : rules_hold p block row ≡ true →
-      (visited p b (rows_of rows chains) ≡ rows_of (sent_behind row bs rows) chains) × (change_at p b (rows_of rows chains) ≡ change_behind row bs rows)
+      (visit_block p b (rows_of rows chains) ≡ rows_of (sent_behind row bs rows) chains) × (change_at p b (rows_of rows chains) ≡ change_behind row bs rows)
   passed_visited holds =
       let sent_then = sent_if true holds in
       let both = behind_sent p row bs rows chains in
       (ap (λ es. all_sent p es (rows_of rows chains)) sent_then ∙ both.0, ap (λ es. changes_of p es (rows_of rows chains)) sent_then ∙ both.1)
 
-  pub passed_none : rules_hold p block row ≡ false → (visited p b (rows_of rows chains) ≡ rows_of rows chains) × (change_at p b (rows_of rows chains) ≡ Same)
+  pub passed_none : rules_hold p block row ≡ false → (visit_block p b (rows_of rows chains) ≡ rows_of rows chains) × (change_at p b (rows_of rows chains) ≡ Same)
   passed_none holds =
       let sent_then = sent_if false holds in
       (ap (λ es. all_sent p es (rows_of rows chains)) sent_then, ap (λ es. changes_of p es (rows_of rows chains)) sent_then)

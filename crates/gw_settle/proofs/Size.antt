@@ -4,7 +4,7 @@ use Rattle.std.specs.List.{list_all}
 use Rattle.std.proofs.lemmas.Bool.{cases_eq, eq-eqb, ne_eqb, and_cases, or_right, or_left, leb-false, true≢false}
 use Rattle.gw_rules.specs.Entries.{lists}
 use Rattle.gw_rules.specs.Rows.{Row, ParamKind, Num, Ret, kind_of, units_of, nonzero, kind_fits, params_fit, units_fit}
-use Rattle.gw_settle.specs.Joins.{one, keep, united, joined_kind, joined, is_within}
+use Rattle.gw_settle.specs.Joins.{one, keep, union_of, joined_kind, join_rows, is_within}
 use Rattle.gw_settle.proofs.Joining.{in_left, in_right, kind_joined, units_joined}
 
 -- how many numbers below n are not in a list
@@ -67,7 +67,7 @@ kind_le n (Some Num) (Some Num) = omega arith
 kind_le n (Some Num) (Some (Ret cs)) = omega arith
 kind_le n (Some (Ret bs)) None = omega arith
 kind_le n (Some (Ret bs)) (Some Num) = omega arith
-kind_le n (Some (Ret bs)) (Some (Ret cs)) = omega (arith, missing_le n bs (united bs cs) (in_left bs cs))
+kind_le n (Some (Ret bs)) (Some (Ret cs)) = omega (arith, missing_le n bs (union_of bs cs) (in_left bs cs))
 
 kind_lt : (n : ℕ) (j k : Option ParamKind) → BlocksBelow n k → kind_fits k j ≡ false → kind_size n (joined_kind j k) < kind_size n j
 kind_lt n None k h e = absurd (true≢false e)
@@ -78,7 +78,7 @@ kind_lt n (Some (Ret bs)) None h e = omega arith
 kind_lt n (Some (Ret bs)) (Some Num) h e = omega arith
 kind_lt n (Some (Ret bs)) (Some (Ret cs)) h e =
     let p = not_among cs bs e in
-    omega (arith, missing_lt n p.0 bs (united bs cs) (in_left bs cs) (h p.0 p.1) p.2 (in_right bs cs p.0 p.1))
+    omega (arith, missing_lt n p.0 bs (union_of bs cs) (in_left bs cs) (h p.0 p.1) p.2 (in_right bs cs p.0 p.1))
 
 kept_sum : {X : Type 0} (h : ℕ → ℕ) (p : ℕ) (value : Option X) (es : List (ℕ × X)) → (value ≡ None → h p ≡ 0) → keys_sum h (one p value ++ es) ≡ h p + keys_sum h es
 kept_sum h p None es z = omega (arith, z refl)
@@ -114,18 +114,18 @@ same_sum : {X : Type 0} (h g : ℕ → ℕ) (es : List (ℕ × X)) → ((p : ℕ
 same_sum h g [] same = refl
 same_sum h g (e ∷ es) same = omega (arith, same e.0, same_sum h g es same)
 
-params_sum : (n : ℕ) (row state : Row) → keys_sum (λ p. kind_size n (kind_of (joined row state) p)) (joined row state).params ≡ keys_sum (λ p. kind_size n (joined_kind (kind_of row p) (kind_of state p))) row.params
+params_sum : (n : ℕ) (row state : Row) → keys_sum (λ p. kind_size n (kind_of (join_rows row state) p)) (join_rows row state).params ≡ keys_sum (λ p. kind_size n (joined_kind (kind_of row p) (kind_of state p))) row.params
 params_sum n row state =
-    same_sum (λ p. kind_size n (kind_of (joined row state) p)) (λ p. kind_size n (joined_kind (kind_of row p) (kind_of state p))) (joined row state).params (λ p. ap (kind_size n) (kind_joined row state p))
+    same_sum (λ p. kind_size n (kind_of (join_rows row state) p)) (λ p. kind_size n (joined_kind (kind_of row p) (kind_of state p))) (join_rows row state).params (λ p. ap (kind_size n) (kind_joined row state p))
     ∙ keep_sum (λ p. kind_size n (joined_kind (kind_of row p) (kind_of state p))) (λ p. joined_kind (kind_of row p) (kind_of state p)) row.params (λ p. none_size n (joined_kind (kind_of row p) (kind_of state p)))
 
-units_sum : (row state : Row) → keys_sum (λ e. units_of (joined row state) e) (joined row state).units ≡ keys_sum (λ e. min (units_of row e) (units_of state e)) row.units
+units_sum : (row state : Row) → keys_sum (λ e. units_of (join_rows row state) e) (join_rows row state).units ≡ keys_sum (λ e. min (units_of row e) (units_of state e)) row.units
 units_sum row state =
-    same_sum (λ e. units_of (joined row state) e) (λ e. min (units_of row e) (units_of state e)) (joined row state).units (units_joined row state)
+    same_sum (λ e. units_of (join_rows row state) e) (λ e. min (units_of row e) (units_of state e)) (join_rows row state).units (units_joined row state)
     ∙ keep_sum (λ e. min (units_of row e) (units_of state e)) (λ e. nonzero (min (units_of row e) (units_of state e))) row.units (λ e. none_zero (min (units_of row e) (units_of state e)))
 
 -- a row that knows more than a state becomes smaller
-pub join_smaller : (n : ℕ) (row state : Row) → ((p : ℕ) → BlocksBelow n (kind_of state p)) → is_within state row ≡ false → row_size n (joined row state) < row_size n row
+pub join_smaller : (n : ℕ) (row state : Row) → ((p : ℕ) → BlocksBelow n (kind_of state p)) → is_within state row ≡ false → row_size n (join_rows row state) < row_size n row
 join_smaller n row state below h =
     let ple = sum_le (λ p. kind_size n (joined_kind (kind_of row p) (kind_of state p))) (λ p. kind_size n (kind_of row p)) row.params (λ p. kind_le n (kind_of row p) (kind_of state p)) in
     let ule = sum_le (λ e. min (units_of row e) (units_of state e)) (λ e. units_of row e) row.units (λ e. omega arith) in

@@ -13,7 +13,7 @@ use Rattle.gw_code.specs.declared.parts.Procedure.{Procedure}
 use Rattle.gw_object.specs.declared.parts.ReturnRow.{ReturnRow}
 use Rattle.gw_object.specs.declared.parts.TableState.{TableState}
 use Rattle.gw_object.specs.declared.parts.Parts.{Parts}
-use Rattle.gw_rules.specs.Checks.{Check, first_broken, numbered}
+use Rattle.gw_rules.specs.Checks.{Check, first_broken, checks_by_number}
 use Rattle.gw_rules.specs.Kinds.{entity_checks, block_checks}
 use Rattle.gw_rules.specs.Procedures as kinds_of_code
 use Rattle.gw_operands.specs.Code.{cost_of_code, takes, asks_for, asked_by_source, parameters_asked}
@@ -23,7 +23,7 @@ use Rattle.gw_rules.specs.Blocks.{Table, Rule, own_rules, rules}
 use Rattle.gw_rules.specs.Flow.{FlowPasses}
 use Rattle.gw_rules.specs.FlowLaws.{FlowHolds}
 use Rattle.gw_rules.proofs.Passing.{flow_passes_at_each_block}
-use Rattle.gw_operands.specs.Sources.{evaluated}
+use Rattle.gw_operands.specs.Sources.{evaluation_operands}
 use Rattle.gw_settle.specs.Settles.{with_table}
 
 module _ (p : Parts) (returns : List ReturnRow) (states chain_states : List (Option TableState)) where
@@ -81,7 +81,7 @@ module _ (p : Parts) (returns : List ReturnRow) (states chain_states : List (Opt
   own_same block row = refl
 
   rules_same : (block : Block) (row : Row) → rules q block row ≡ rules p block row
-  rules_same block row = rw (flat_same (evaluated p.entities block), own_same block row) refl
+  rules_same block row = rw (flat_same (evaluation_operands p.entities block), own_same block row) refl
 
   flow_from : (table : Table) → FlowHolds q table → FlowHolds p table
   flow_from table h = record {
@@ -103,11 +103,11 @@ module _ (p : Parts) (returns : List ReturnRow) (states chain_states : List (Opt
 
   -- KINDS
 
-  entities_same : numbered (entity_checks q) 0 q.entities ≡ numbered (entity_checks p) 0 p.entities
+  entities_same : checks_by_number (entity_checks q) 0 q.entities ≡ checks_by_number (entity_checks p) 0 p.entities
   entities_same = refl
 
-  procedures_same : numbered (kinds_of_code.procedure_checks q) 0 q.procedures ≡ numbered (kinds_of_code.procedure_checks p) 0 p.procedures
+  procedures_same : checks_by_number (kinds_of_code.procedure_checks q) 0 q.procedures ≡ checks_by_number (kinds_of_code.procedure_checks p) 0 p.procedures
   procedures_same = refl
 
-  blocks_same : numbered (block_checks q) 1 q.blocks ≡ numbered (block_checks p) 1 p.blocks
+  blocks_same : checks_by_number (block_checks q) 1 q.blocks ≡ checks_by_number (block_checks p) 1 p.blocks
   blocks_same = refl

@@ -5,7 +5,7 @@ use Rattle.std.proofs.lemmas.Bool.{lt-ltb, le-ltb, ltb-true, ltb-false}
 use Rattle.std.proofs.lemmas.List.Elements.{All-nil, All-cons, All-head, All-tail, All-weaker}
 use Rattle.std.proofs.lemmas.List.Kept.{AllPairs-filter}
 use Rattle.gw_flow.proofs.Ascending.{AllPairs-head, AllPairs-tail, AllPairs-drop}
-use Rattle.gw_settle.specs.Joins.{united}
+use Rattle.gw_settle.specs.Joins.{union_of}
 
 -- FILTERS
 
@@ -116,7 +116,7 @@ left_above bound (n ∷ ns) = by_test (nat_lt n bound) n bound (filter (λ n. no
 -- WHAT IS COMMON
 
 -- what two lists have in common at the front is in front of both
-pub common_first : (k : ℕ) (ns ms : List ℕ) → Ascend ns → Ascend ms → take k ns ≡ take k ms → k ≤ length ns → k ≤ length ms → take k ns ++ united (drop k ns) (drop k ms) ≡ united ns ms
+pub common_first : (k : ℕ) (ns ms : List ℕ) → Ascend ns → Ascend ms → take k ns ≡ take k ms → k ≤ length ns → k ≤ length ms → take k ns ++ union_of (drop k ns) (drop k ms) ≡ union_of ns ms
 common_first zero ns ms up vp e le me = refl
 common_first (suc k) [] ms up vp e le me = absurd (omega (arith, le))
 common_first (suc k) (n ∷ ns) [] up vp e le me = absurd (omega (arith, me))
@@ -129,11 +129,11 @@ common_first (suc k) (n ∷ ns) (m ∷ ms) up vp e le me =
 -- THE UNION SO FAR
 
 pub record United (old numbers others all rest : List ℕ) (left : List ℕ) : Type 0 where
-  pub same : all ++ united rest left ≡ old ++ united numbers others
+  pub same : all ++ union_of rest left ≡ old ++ union_of numbers others
   pub ascends : Ascend rest
 
 pub united_more : (old numbers others all rest : List ℕ) (m : ℕ) (left : List ℕ) → United old numbers others all rest (m ∷ left) → United old numbers others ((all ++ filter (λ n. nat_lt n m) rest) ++ m ∷ []) (filter (λ n. nat_lt m n) rest) left
 united_more old numbers others all rest m left h = record {
-  same = append_assoc (all ++ filter (λ n. nat_lt n m) rest) (m ∷ []) (united (filter (λ n. nat_lt m n) rest) left) ∙ append_assoc all (filter (λ n. nat_lt n m) rest) (m ∷ united (filter (λ n. nat_lt m n) rest) left) ∙ h.same;
+  same = append_assoc (all ++ filter (λ n. nat_lt n m) rest) (m ∷ []) (union_of (filter (λ n. nat_lt m n) rest) left) ∙ append_assoc all (filter (λ n. nat_lt n m) rest) (m ∷ union_of (filter (λ n. nat_lt m n) rest) left) ∙ h.same;
   ascends = AllPairs-filter (λ a b. a < b) (λ n. nat_lt m n) rest h.ascends;
 }

@@ -13,7 +13,7 @@ use Rattle.gw_settle.specs.declared.table.Change.{Change}
 use Rattle.gw_settle.specs.declared.passing.Latest.{Latest}
 use Rattle.gw_settle.specs.declared.passing.Like.{Like}
 use Rattle.gw_settle.specs.declared.passing.Sent.{Sent}
-use Rattle.gw_settle.specs.Rounds.{TableRows, rows_of, with_blocks, as_table, sent_at, sent, all_sent, members_in, members_from, sends_in, visited, round, change_of, changes_of, change_at, change_in, AreReached}
+use Rattle.gw_settle.specs.Rounds.{TableRows, rows_of, with_blocks, as_table, sent_at, send_edge, all_sent, members_in, members_from, sends_in, visit_block, round, change_of, changes_of, change_at, change_in, AreReached}
 use Rattle.gw_settle.specs.Keeps.{IsWell, HasShape, AreSound}
 use Rattle.gw_settle.specs.Marks.{with_mark, MarksSuffice, MarksFollow}
 use Rattle.gw_settle.specs.Versions.{AreVersions, HaveVersion, IsSharing, Makes, sent_behind, change_behind}
@@ -66,11 +66,11 @@ IsRound p = Steps (round p) (change_in p)
 
 -- a step that is a visit of the block of number b
 abbrev pub IsVisit : Parts → ℕ → Draft → Draft → Change → Type 0
-IsVisit p b = Steps (visited p b) (change_at p b)
+IsVisit p b = Steps (visit_block p b) (change_at p b)
 
 -- a step that sends the state of an edge to its target
 abbrev pub IsSending : Parts → FlowEdge → Draft → Draft → Change → Type 0
-IsSending p edge = Steps (sent p edge) (λ rows. change_of edge.state (as_table p rows edge.target))
+IsSending p edge = Steps (send_edge p edge) (λ rows. change_of edge.state (as_table p rows edge.target))
 
 -- a step that sends those of several edges, one after the other
 abbrev pub AreSendings : Parts → List FlowEdge → Draft → Draft → Change → Type 0

@@ -30,19 +30,19 @@ abbrev pub not_below : ℕ → List ℕ → List ℕ
 not_below bound ns = filter (λ n. not (nat_lt n bound)) ns
 
 -- these numbers and those, ascending
-abbrev pub united : List ℕ → List ℕ → List ℕ
-united ns [] = ns
-united ns (m ∷ ms) = filter (λ n. nat_lt n m) ns ++ m ∷ united (filter (λ n. nat_lt m n) ns) ms
+abbrev pub union_of : List ℕ → List ℕ → List ℕ
+union_of ns [] = ns
+union_of ns (m ∷ ms) = filter (λ n. nat_lt n m) ns ++ m ∷ union_of (filter (λ n. nat_lt m n) ns) ms
 
 -- what a parameter holds on either way: a number on both, or a return on both, to the blocks of either
 abbrev pub joined_kind : Option ParamKind → Option ParamKind → Option ParamKind
 joined_kind (Some Num) (Some Num) = Some Num
-joined_kind (Some (Ret bs)) (Some (Ret cs)) = Some (Ret (united bs cs))
+joined_kind (Some (Ret bs)) (Some (Ret cs)) = Some (Ret (union_of bs cs))
 joined_kind kind other = None
 
 -- a row with a state: the parameters that both have, the row's facilities, and the lesser units
-abbrev pub joined : Row → Row → Row
-joined row state = record {
+abbrev pub join_rows : Row → Row → Row
+join_rows row state = record {
   params = keep (λ p. joined_kind (kind_of row p) (kind_of state p)) row.params;
   facilities = row.facilities;
   units = keep (λ e. nonzero (min (units_of row e) (units_of state e))) row.units;
@@ -60,19 +60,19 @@ pub record Within (state row : Row) : Type 0 where
 -- a row once a state has come: where there is none it is the state; where the state has what the row knows it stays; else they are joined
 abbrev pub with_state : Row → Option Row → Row
 with_state state None = state
-with_state state (Some row) = if is_within state row then row else joined row state
+with_state state (Some row) = if is_within state row then row else join_rows row state
 
 -- each of the two has what the join knows
 abbrev pub JoinIsBelowBoth : Type 0
-JoinIsBelowBoth = (row state : Row) → Within row (joined row state) × Within state (joined row state)
+JoinIsBelowBoth = (row state : Row) → Within row (join_rows row state) × Within state (join_rows row state)
 
 -- and what both have, the join has
 abbrev pub JoinIsGreatest : Type 0
-JoinIsGreatest = (row state other : Row) → Within row other → Within state other → Within (joined row state) other
+JoinIsGreatest = (row state other : Row) → Within row other → Within state other → Within (join_rows row state) other
 
 -- the lists of a join ascend, and no amount is 0
 abbrev pub JoinIsOrdered : Type 0
-JoinIsOrdered = (row state : Row) → IsOrdered row → IsOrdered state → IsOrdered (joined row state)
+JoinIsOrdered = (row state : Row) → IsOrdered row → IsOrdered state → IsOrdered (join_rows row state)
 
 -- AS THE CODE HAS THEM
 

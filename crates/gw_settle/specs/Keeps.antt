@@ -18,7 +18,7 @@ use Rattle.gw_rules.specs.Rows.{Row, ParamKind, Num, Ret, kind_of, units_of, not
 use Rattle.gw_rules.specs.Blocks.{Table, replaces}
 use Rattle.gw_rules.specs.Flow.{FlowPasses}
 use Rattle.gw_settle.specs.Joins.{Within}
-use Rattle.gw_settle.specs.Rounds.{TableRows, as_table, sends, visited, start}
+use Rattle.gw_settle.specs.Rounds.{TableRows, as_table, sends, visit_block, start}
 
 -- THE PREMISE
 
@@ -168,7 +168,7 @@ pub record IsSettled (p : Parts) (rows : TableRows) : Type 0 where
 
 -- a visit of a block keeps it
 abbrev pub VisitsKeep : Type 0
-VisitsKeep = (p : Parts) (b : ℕ) (rows : TableRows) → IsWell p → AreKept p rows → AreKept p (visited p b rows)
+VisitsKeep = (p : Parts) (b : ℕ) (rows : TableRows) → IsWell p → AreKept p rows → AreKept p (visit_block p b rows)
 
 -- the rounds begin with what they keep
 abbrev pub StartIsKept : Type 0

@@ -43,14 +43,14 @@ own_rows p = record { blocks = map (option_map (row_meaning p.returns)) p.states
 -- A VISIT
 
 -- a list with the element at a place, from 0, changed
-abbrev pub changed : {X : Type 0} → (X → X) → ℕ → List X → List X
-changed f k [] = []
-changed f zero (x ∷ xs) = f x ∷ xs
-changed f (suc k) (x ∷ xs) = x ∷ changed f k xs
+abbrev pub with_change_at : {X : Type 0} → (X → X) → ℕ → List X → List X
+with_change_at f k [] = []
+with_change_at f zero (x ∷ xs) = f x ∷ xs
+with_change_at f (suc k) (x ∷ xs) = x ∷ with_change_at f k xs
 
 -- the rows with a state sent to one place, from 0
 abbrev pub sent_at : Row → ℕ → List (Option Row) → List (Option Row)
-sent_at state k rows = changed (λ row. Some (with_state state row)) k rows
+sent_at state k rows = with_change_at (λ row. Some (with_state state row)) k rows
 
 -- the rows with a state sent to the block of a number, from 1
 abbrev pub sent_to_block : Row → ℕ → List (Option Row) → List (Option Row)
@@ -63,13 +63,13 @@ sent_to es state (targets.Block b) rows = record rows { blocks = sent_to_block s
 sent_to es state (targets.Chain e) rows = record rows { chains = sent_at state (chain_place es e) rows.chains }
 
 -- the rows with the state of an edge sent to its target
-abbrev pub sent : Parts → FlowEdge → TableRows → TableRows
-sent p edge rows = sent_to p.entities edge.state edge.target rows
+abbrev pub send_edge : Parts → FlowEdge → TableRows → TableRows
+send_edge p edge rows = sent_to p.entities edge.state edge.target rows
 
 -- and of several, one after the other
 abbrev pub all_sent : Parts → List FlowEdge → TableRows → TableRows
 all_sent p [] rows = rows
-all_sent p (e ∷ es) rows = all_sent p es (sent p e rows)
+all_sent p (e ∷ es) rows = all_sent p es (send_edge p e rows)
 
 -- the row of the user chain from which a block sends members on, if it is an UNLINK, and there is one
 abbrev pub members_in : Table → Block → Option Row
@@ -92,15 +92,15 @@ abbrev pub sends : Parts → Table → ℕ → List FlowEdge
 sends p table b = sends_in p table b (block_at p.blocks b) (table (targets.Block b))
 
 -- the rows once the block of number b was visited
-abbrev pub visited : Parts → ℕ → TableRows → TableRows
-visited p b rows = all_sent p (sends p (as_table p rows) b) rows
+abbrev pub visit_block : Parts → ℕ → TableRows → TableRows
+visit_block p b rows = all_sent p (sends p (as_table p rows) b) rows
 
 -- ROUNDS
 
 -- the rows once each block up to a number was visited, from the first one on
 abbrev pub visited_to : Parts → ℕ → TableRows → TableRows
 visited_to p zero rows = rows
-visited_to p (suc k) rows = visited p (suc k) (visited_to p k rows)
+visited_to p (suc k) rows = visit_block p (suc k) (visited_to p k rows)
 
 -- and once each was
 abbrev pub round : Parts → TableRows → TableRows
@@ -147,7 +147,7 @@ followed_by More change = More
 -- what the states of these edges change that are sent one after the other
 abbrev pub changes_of : Parts → List FlowEdge → TableRows → Change
 changes_of p [] rows = Same
-changes_of p (e ∷ es) rows = followed_by (change_of e.state (as_table p rows e.target)) (changes_of p es (sent p e rows))
+changes_of p (e ∷ es) rows = followed_by (change_of e.state (as_table p rows e.target)) (changes_of p es (send_edge p e rows))
 
 -- what a visit of the block of number b changes
 abbrev pub change_at : Parts → ℕ → TableRows → Change

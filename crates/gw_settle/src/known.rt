@@ -144,7 +144,7 @@ fn returns_joined(
 ) -> Result<Option<KnownKind>, Memory>
     requires blocks { AllPairs (λ a b. a < b) blocks.now }
     requires others { AllPairs (λ a b. a < b) others.now }
-    ensures { IfOk result (λ k. kind_in k ≡ Some (Ret (model.united blocks.now others.now))) }
+    ensures { IfOk result (λ k. kind_in k ≡ Some (Ret (model.union_of blocks.now others.now))) }
 {
     let all = united(alloc, blocks.as_slice(), others)?;
     Ok(Some(KnownKind::Ret(Items::from_vec(all))))
@@ -345,7 +345,7 @@ impl Known {
 
     /// What is known by this row and by a state; the facilities are the row's.
     pub(crate) fn joined(&self, alloc: Global, state: &State<'_>) -> Result<Known, Memory>
-        ensures { IfOk result (λ row. row ≡ model.joined self.now state.now) }
+        ensures { IfOk result (λ row. row ≡ model.join_rows self.now state.now) }
     {
         state.params();
         let lists = self.lists.as_ref();

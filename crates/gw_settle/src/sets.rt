@@ -1,7 +1,7 @@
 //! Sets of numbers, as lists that ascend.
 
 ghost use Rattle.std.specs.Prelude.{◌≡◌, ◌++◌, ◌<◌, ◌≤◌, IfOk, All, AllPairs, drop, filter, length, nat_lt, take};
-ghost use Rattle.gw_settle.specs.Joins.{below, not_below, united as united_of};
+ghost use Rattle.gw_settle.specs.Joins.{below, not_below, union_of as united_of};
 
 use gw_object::Memory;
 use std::alloc::Global;

@@ -4,7 +4,7 @@ use Rattle.std.specs.Global.{Global}
 use Rattle.std.specs.Str.{bytes_eq}
 use Rattle.hex.specs.Hex.{encode_lower}
 use Rattle.sha2.specs.Sha256.{sha256}
-use Rattle.gw_answers.specs.Status.{ended, refused}
+use Rattle.gw_answers.specs.Status.{end_status, refusal_status}
 use Rattle.gw_figures.specs.Labels.{labels_of}
 use Rattle.gw_figures.specs.declared.run.Run.{Run}
 use Rattle.gw_study.specs.Runs.{AreRunsFrom}
@@ -87,6 +87,6 @@ common_of text request = record { model = digest text; rows = 0; from = request.
 -- what is answered: the rows of all points that words ask for, or a refusal as a row
 abbrev pub AreRows : List ℕ → List (List ℕ) → RowsRequest → List ℕ → ℕ → Type 0
 AreRows text words request out status =
-    ((status ≡ ended) × ((points : List Alternative) × ArePoints text words request.count points
+    ((status ≡ end_status) × ((points : List Alternative) × ArePoints text words request.count points
     × AreRequestRows (common_of text request) request points out))
-    ⊎ ((status ≡ refused) × ((why : List ℕ) × (out ≡ refusal_rows (digest text) why)))
+    ⊎ ((status ≡ refusal_status) × ((why : List ℕ) × (out ≡ refusal_rows (digest text) why)))

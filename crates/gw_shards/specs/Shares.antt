@@ -1,7 +1,7 @@
 -- The rows of a share of a model's experiment.
 use Rattle.std.specs.Prelude.{◌≡◌, ◌⊎◌, ℕ, ◌+◌, ◌*◌, ◌==◌, nat_lt, List, [], ◌∷◌, length, map, MatchBool, Result, OnOk, Vec, if◌then◌else◌}
 use Rattle.std.specs.Global.{Global}
-use Rattle.gw_answers.specs.Status.{ended, refused}
+use Rattle.gw_answers.specs.Status.{end_status, refusal_status}
 use Rattle.gw_experiment.specs.Shares.{share_of, run_at}
 use Rattle.gw_experiment.specs.declared.experiment.Experiment.{Experiment}
 use Rattle.gw_experiment.specs.declared.shares.Share.{Share}
@@ -80,12 +80,12 @@ pub record IsShareOf (text : List ℕ) (experiment : Experiment) (number shares 
 
 -- a refusal as a row
 abbrev pub IsRefusedRow : List ℕ → List ℕ → ℕ → Type 0
-IsRefusedRow text out status = (status ≡ refused) × ((why : List ℕ) × (out ≡ refusal_rows (digest text) why))
+IsRefusedRow text out status = (status ≡ refusal_status) × ((why : List ℕ) × (out ≡ refusal_rows (digest text) why))
 
 -- the rows of a share of an experiment, or a refusal
 abbrev pub IsShareOr : List ℕ → Experiment → ℕ → ℕ → List ℕ → ℕ → Type 0
 IsShareOr text experiment number shares out status =
-    ((status ≡ ended) × IsShareOf text experiment number shares out) ⊎ IsRefusedRow text out status
+    ((status ≡ end_status) × IsShareOf text experiment number shares out) ⊎ IsRefusedRow text out status
 
 -- what is answered: those of an experiment, or a refusal
 abbrev pub IsShareAnswer : List ℕ → ℕ → ℕ → List ℕ → ℕ → Type 0

@@ -2,7 +2,7 @@
 
 ghost use Rattle.std.specs.Prelude.{◌≡◌, ◌≤◌, ◌<◌, ◌+◌, ◌++◌, ◌∷◌, [], length, map, IfOk, OnOk};
 ghost use Rattle.gw_answers.specs.Requests.{AnswersAs};
-ghost use Rattle.gw_answers.specs.Status.{ended, refused as refused_status};
+ghost use Rattle.gw_answers.specs.Status.{end_status, refusal_status};
 ghost use Rattle.gw_rows.specs.Refusals.{refusal_rows};
 ghost use Rattle.gw_rows.specs.Rows.{rows_by, source_of};
 ghost use Rattle.gw_shards.specs.Rows as model;
@@ -173,7 +173,7 @@ fn put_points<T: Threads + Sync + Eprint>(
 /// A refusal as a row.
 pub(crate) fn refused(alloc: Global, digest: &[u8], text: &[u8]) -> Result<Answer, Memory>
     ensures { IfOk result (λ a.
-        (a.status ≡ refused_status) × (a.text.items ≡ refusal_rows digest.now text.now)) }
+        (a.status ≡ refusal_status) × (a.text.items ≡ refusal_rows digest.now text.now)) }
 {
     let mut out = Vec::new(alloc);
     put_refusal(alloc, &mut out, digest, text)?;
@@ -192,7 +192,7 @@ fn told<T: Threads + Sync + Eprint>(
     request: &RowsRequest,
 ) -> Result<Answer, Memory>
     requires { (request.now.first ≤ request.now.end) × (request.now.end ≤ 512) }
-    ensures status { IfOk result (λ a. a.status ≡ ended) }
+    ensures status { IfOk result (λ a. a.status ≡ end_status) }
     ensures rows { IfOk result (λ a.
         AreRequestRows (view common.now) request.now points.now a.text.items) }
 {

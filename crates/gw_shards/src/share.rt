@@ -2,7 +2,7 @@
 
 ghost use Rattle.std.specs.Prelude.{◌≡◌, ◌≤◌, ◌<◌, ◌++◌, [], length, map, IfOk, OnOk};
 ghost use Rattle.gw_answers.specs.Requests.{AnswersAs};
-ghost use Rattle.gw_answers.specs.Status.{ended};
+ghost use Rattle.gw_answers.specs.Status.{end_status};
 ghost use Rattle.gw_shards.specs.Rows.{view, digest as digest_text};
 ghost use Rattle.gw_shards.specs.Shares as model;
 
@@ -131,7 +131,7 @@ fn share_of_points<T: Threads + Sync + Eprint>(
 ) -> Result<Answer, Memory>
     requires part { part.number < part.shares }
     requires few { (experiment.now.runs ≤ 512) × (length points.now ≤ 64) }
-    ensures status { IfOk result (λ a. a.status ≡ ended) }
+    ensures status { IfOk result (λ a. a.status ≡ end_status) }
     ensures rows { IfOk result (λ a.
         model.ArePartRows digest.now experiment.now part points.now a.text.items) }
 {

@@ -5,7 +5,7 @@ use Rattle.std.proofs.Common.{eq-or-lt_of_le}
 use Rattle.gw_object.specs.declared.parts.Parts.{Parts}
 use Rattle.gw_rules.specs.Pass.{kinds_checks, KindsPass}
 use Rattle.gw_weighing.specs.Certificates.{IsCounted, with_weights}
-use Rattle.gw_slopes.specs.Aside.{emptied, own_of, with_own}
+use Rattle.gw_slopes.specs.Aside.{without_slopes, own_of, with_own}
 use Rattle.gw_slopes.specs.Sloped.{AreMarks, AreSlopes}
 use Rattle.gw_slopes.specs.Found.{AreAlike, DifferInSlopes, HelpsNone, HelpNoneBefore, HasSlopes, IsTrial, is_tried}
 
@@ -83,11 +83,11 @@ module _ (p : Parts) (weights chains : List ℕ) where
 -- PARTS WITHOUT WEIGHTS AND SLOPES
 
 module _ (p : Parts) where
-  pub none_of_emptied : (n : ℕ) → HelpNoneBefore (emptied p) n → HelpNoneBefore p n
+  pub none_of_emptied : (n : ℕ) → HelpNoneBefore (without_slopes p) n → HelpNoneBefore p n
   none_of_emptied n h r some lt tried = helps_none p p.version [] [] [] r (h r some lt tried)
 
   -- what is found from them on
-  pub has_of_emptied : (x : Parts) → HasSlopes (emptied p) x → HasSlopes p x
+  pub has_of_emptied : (x : Parts) → HasSlopes (without_slopes p) x → HasSlopes p x
   has_of_emptied x h = record {
     parameter = h.parameter;
     tried = h.tried;
@@ -98,9 +98,9 @@ module _ (p : Parts) where
     least = h.least;
   }
 
-  pub counted_emptied : IsCounted p → IsCounted (emptied p)
+  pub counted_emptied : IsCounted p → IsCounted (without_slopes p)
   counted_emptied c = record { blocks = c.blocks; entities = c.entities; returns = c.returns; chain_states = c.chain_states }
 
   -- once what they had is put back
-  pub back : (x : Parts) → AreAlike (emptied p) x → with_own x (own_of p) ≡ p
+  pub back : (x : Parts) → AreAlike (without_slopes p) x → with_own x (own_of p) ≡ p
   back x alike = subst (λ (y : Parts). with_own y (own_of p) ≡ p) alike refl

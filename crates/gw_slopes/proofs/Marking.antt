@@ -15,16 +15,16 @@ use Rattle.gw_rules.specs.Kinds.{block_at}
 use Rattle.gw_rules.specs.Rows.{Row}
 use Rattle.gw_rules.specs.declared.ways.Exit.{Exit}
 use Rattle.gw_slopes.specs.Sloped.{Sloped, loops, leads, counts, asks_back, leads_back, asks_in, asks_at, asks, marked_at, AreMarks}
-use Rattle.gw_slopes.specs.Marking.{is_due, marked_if, AreSound, StaySound, lacks, missing, IsOn, IsRound}
+use Rattle.gw_slopes.specs.Marking.{is_due, marked_if, AreSound, StaySound, lacks, missing_marks, IsOn, IsRound}
 
 -- HOW MANY ARE MISSING
 
-pub one_less : (marks : List Bool) (i : ℕ) → i < length marks → get_or marks i false ≡ false → missing (set marks i true) < missing marks
+pub one_less : (marks : List Bool) (i : ℕ) → i < length marks → get_or marks i false ≡ false → missing_marks (set marks i true) < missing_marks marks
 one_less [] i within h = absurd (omega (arith, within))
 one_less (m ∷ marks) zero within h = let one : lacks m ≡ 1 = ap lacks h in omega (arith, one)
 one_less (m ∷ marks) (suc i) within h = omega (arith, one_less marks i (omega (arith, within)) h)
 
-pub most_missing : (marks : List Bool) → missing marks ≤ length marks
+pub most_missing : (marks : List Bool) → missing_marks marks ≤ length marks
 most_missing [] = omega arith
 most_missing (true ∷ marks) = omega (arith, most_missing marks)
 most_missing (false ∷ marks) = omega (arith, most_missing marks)
@@ -107,9 +107,9 @@ module _ (p : Parts) (q : ℕ) where
     none = λ h i within far. absurd (omega (arith, within, far));
   }
 
-  at_most : (old new : List Bool) (marked : Bool) → (marked ≡ true → missing new < missing old) → (marked ≡ false → new ≡ old) → missing new ≤ missing old
+  at_most : (old new : List Bool) (marked : Bool) → (marked ≡ true → missing_marks new < missing_marks old) → (marked ≡ false → new ≡ old) → missing_marks new ≤ missing_marks old
   at_most old new true fewer same = omega (arith, fewer refl)
-  at_most old new false fewer same = omega (arith, ap missing (same refl))
+  at_most old new false fewer same = omega (arith, ap missing_marks (same refl))
 
   pub goes_on : (old v x : List Bool) (marked due : Bool) (steps place : ℕ) → IsOn p q steps old v marked → steps < length old → place ≡ length old - 1 - steps → due ≡ is_due p q v place → x ≡ marked_if due v place → IsOn p q (steps + 1) old x (marked || due)
   goes_on old v x marked true steps place on within at is put =
@@ -118,7 +118,7 @@ module _ (p : Parts) (q : ℕ) where
       record {
         many = ap length put ∙ length-set v place true ∙ on.many;
         sound = λ h. subst (AreSound p q) (sym put) (sound_set v place (on.sound h) (sym is));
-        fewer = λ h. omega (arith, ap missing put, one_less v place here (not_so (get_or v place false) unmarked), at_most old v marked on.fewer on.same);
+        fewer = λ h. omega (arith, ap missing_marks put, one_less v place here (not_so (get_or v place false) unmarked), at_most old v marked on.fewer on.same);
         same = λ h. absurd (false≢true (sym (or_parts marked true h).1));
         none = λ h i inside far. absurd (false≢true (sym (or_parts marked true h).1));
       }
@@ -130,7 +130,7 @@ module _ (p : Parts) (q : ℕ) where
     many = ap length put ∙ on.many;
     sound = λ h. subst (AreSound p q) (sym put) (on.sound h);
     fewer = λ h. elim (or_cases marked false h) [
-      | inl e ↦ omega (arith, ap missing put, on.fewer e)
+      | inl e ↦ omega (arith, ap missing_marks put, on.fewer e)
       | inr e ↦ absurd (false≢true e)
     ];
     same = λ h. put ∙ on.same (or_parts marked false h).0;

@@ -4,8 +4,8 @@ use Rattle.gw_object.specs.declared.parts.Parts.{Parts}
 use Rattle.gw_slopes.specs.declared.weighing.Own.{Own}
 
 -- parts without it
-abbrev pub emptied : Parts → Parts
-emptied p = record p { weights = []; slopes = []; chain_weights = [] }
+abbrev pub without_slopes : Parts → Parts
+without_slopes p = record p { weights = []; slopes = []; chain_weights = [] }
 
 -- what they have of it
 abbrev pub own_of : Parts → Own

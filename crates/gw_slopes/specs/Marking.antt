@@ -26,15 +26,15 @@ lacks true = 0
 lacks false = 1
 
 -- how many marks are missing
-abbrev pub missing : List Bool → ℕ
-missing [] = 0
-missing (m ∷ ms) = lacks m + missing ms
+abbrev pub missing_marks : List Bool → ℕ
+missing_marks [] = 0
+missing_marks (m ∷ ms) = lacks m + missing_marks ms
 
 -- what so many steps of a round, from the last block on, make of marks: each is sound still; and where none was put, none was due there
 pub record IsOn (p : Parts) (q steps : ℕ) (old new : List Bool) (marked : Bool) : Type 0 where
   pub many : length new ≡ length old
   pub sound : AreSound p q old → AreSound p q new
-  pub fewer : marked ≡ true → missing new < missing old
+  pub fewer : marked ≡ true → missing_marks new < missing_marks old
   pub same : marked ≡ false → new ≡ old
   pub none : marked ≡ false → (i : ℕ) → i < length old → length old ≤ i + steps → is_due p q old i ≡ false
 
@@ -42,6 +42,6 @@ pub record IsOn (p : Parts) (q steps : ℕ) (old new : List Bool) (marked : Bool
 pub record IsRound (p : Parts) (q : ℕ) (old new : List Bool) (marked : Bool) : Type 0 where
   pub many : length new ≡ length old
   pub sound : AreSound p q old → AreSound p q new
-  pub fewer : marked ≡ true → missing new < missing old
+  pub fewer : marked ≡ true → missing_marks new < missing_marks old
   pub same : marked ≡ false → new ≡ old
   pub none : marked ≡ false → (i : ℕ) → i < length old → is_due p q old i ≡ false

@@ -3,7 +3,7 @@
 ghost use Rattle.std.specs.Prelude.{◌≡◌, IfOk, IfErr, true, false};
 ghost use Rattle.gw_object.specs.Grammar.{HasSpelling};
 ghost use Rattle.gw_rules.specs.Pass.{KindsPass};
-ghost use Rattle.gw_slopes.specs.Aside.{emptied, own_of, with_own};
+ghost use Rattle.gw_slopes.specs.Aside.{without_slopes, own_of, with_own};
 ghost use Rattle.gw_slopes.specs.Found as model;
 
 use crate::search::search;
@@ -39,7 +39,7 @@ struct Own {
 
 /// Puts aside what parts have of their own.
 fn put_aside(alloc: Global, parts: &mut Parts) -> Own
-    ensures parts { parts.new ≡ emptied parts.old }
+    ensures parts { parts.new ≡ without_slopes parts.old }
     ensures own { result ≡ own_of parts.old }
 {
     Own {

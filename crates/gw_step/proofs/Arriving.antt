@@ -30,7 +30,7 @@ use Rattle.gw_step.specs.State.{State, with_streams}
 use Rattle.gw_step.specs.Times.{environment_of_next, drawn_moment, parameters_of}
 use Rattle.gw_step.specs.Changes.{arrives}
 use Rattle.gw_step.specs.Blocks.{is_owed, next_arrival, generate}
-use Rattle.gw_step.specs.Start.{nothing, first_moment, first_arrival, first_arrivals, started, start}
+use Rattle.gw_step.specs.Start.{nothing, first_moment, first_arrival, first_arrivals, start_outcome, start}
 use Rattle.gw_step.specs.Residence.{occurrences}
 use Rattle.gw_step.proofs.Nothing.{no_transaction, resides-nothing}
 use Rattle.gw_step.specs.Places.{row_of}
@@ -183,7 +183,7 @@ module _ (p : Parts) (flow : FlowHolds p (own_table p)) (sound : IsSound p) (rea
       (first_typed b block s (subst (λ k. block_at p.blocks k ≡ Some block) (omega arith) (there 0 block refl)) h)
       (λ t h'. firsts_typed (b + 1) rest t (λ i x is. subst (λ k. block_at p.blocks k ≡ Some x) (omega arith) (there (suc i) x is)) h')
 
-  started_typed : (o : Outcome State) (s : State) → Starts p s → Safe (Starts p) o → (first : State) × (started s o ≡ Some first) × Starts p first
+  started_typed : (o : Outcome State) (s : State) → Starts p s → Safe (Starts p) o → (first : State) × (start_outcome s o ≡ Some first) × Starts p first
   started_typed (Gives t) s h h' = (t, refl, h')
   started_typed (EndsBy end) s h h' = (record s { ended = Some end }, refl, record { typed = h.typed; within = h.within })
   started_typed HasNoCase s h h' = absurd h'

@@ -5,7 +5,7 @@ use Rattle.gw_blocks.specs.declared.parts.Generate.{Generate}
 use Rattle.gw_blocks.specs.declared.parts.Block.{Block}
 use Rattle.gw_blocks.specs.declared.parts.Block.TheVariants as blocks
 use Rattle.gw_object.specs.declared.parts.Parts.{Parts}
-use Rattle.gw_operands.specs.Sources.{evaluated}
+use Rattle.gw_operands.specs.Sources.{evaluation_operands}
 use Rattle.gw_rules.specs.Kinds.{block_at, is_generate}
 use Rattle.gw_rules.specs.KindsLaws.{EntityHolds, BlockHolds}
 use Rattle.gw_rules.proofs.Sources.{evaluated_holds}
@@ -47,7 +47,7 @@ module _ (p : Parts) (entities : All (EntityHolds p) p.entities) where
       }
 
   -- what a transaction's block evaluates for it
-  pub are_read : (s : State) (n : ℕ) (t : Transaction) (block : Block) (row : Row) → Acts p s n t block row → AreRead p (environment_of n t s) (evaluated p.entities block)
+  pub are_read : (s : State) (n : ℕ) (t : Transaction) (block : Block) (row : Row) → Acts p s n t block row → AreRead p (environment_of n t s) (evaluation_operands p.entities block)
   are_read s n t block row acts i d within =
       record {
         holds = evaluated_holds p entities t.next block acts.kinds i d within;
@@ -55,7 +55,7 @@ module _ (p : Parts) (entities : All (EntityHolds p) p.entities) where
       }
 
   -- and what is evaluated there at all
-  pub are_read_there : (s : State) (n : ℕ) (t : Transaction) (block : Block) (row : Row) → Acts p s n t block row → AreRead p (environment_at block n t s) (evaluated p.entities block)
+  pub are_read_there : (s : State) (n : ℕ) (t : Transaction) (block : Block) (row : Row) → Acts p s n t block row → AreRead p (environment_at block n t s) (evaluation_operands p.entities block)
   are_read_there s n t (blocks.Generate g) row acts =
       interval_read t.next g row acts.kinds acts.flow (the_rule p t.next codes.edge_state (is_empty row) (blocks.Generate g) row refl acts.flow) (environment_of_next g.priority s)
   are_read_there s n t block row acts = are_read s n t block row acts

@@ -20,8 +20,8 @@ use Rattle.gw_step.specs.declared.placement.Placement.{Placement}
 use Rattle.gw_step.specs.declared.placement.Placement.TheVariants.{StaysActive, RestsUntil, JoinsDelayList, JoinsRetryList, RestsAhead, RestsBehind, AwaitsSet, JoinsChain, LeavesModel}
 use Rattle.gw_step.specs.Placing.{placed_at}
 use Rattle.gw_step.specs.Numbers.{IsWithin, AreWithinLimits, AreFewLive}
-use Rattle.gw_step.specs.State.{EntityStates, State, raised}
-use Rattle.gw_step.specs.Changes.{newcomer, assigned, time_passes}
+use Rattle.gw_step.specs.State.{EntityStates, State, with_one_more_at}
+use Rattle.gw_step.specs.Changes.{newcomer, assign_to, time_passes}
 use Rattle.gw_step.proofs.Residence.{one_if}
 use Rattle.gw_step.proofs.Within.{raises-same, mark_from, within-entered, within-turned, within-assigned, within-destroyed, within-retries, within-woken, within-counted, within-arrives, within-rests, within-streams, within-waits, within-called, within-active, within-ended, within-ahead, within-behind, within-copied, within-awaits, within-assembled, within-come, within-linked, within-unlinked}
 use Rattle.gw_step.proofs.Follows.{block_below, within-clock}
@@ -107,7 +107,7 @@ module _ (p : Parts) where
       within-turned (length p.blocks) (length p.entities) en ar s w n to t (number_below s.transactions n t is.found) (mark_from s.transactions n t w.marked is.found)
   change-within (GoesWith {en = en} {ar = ar} {s = s} n to q value t block row state is here known along may balance pays) w =
       let before = within-assigned (length p.blocks) (length p.entities) en ar s w n q value (number_below s.transactions n t is.found) in
-      within-entered (length p.blocks) (length p.entities) en ar (assigned n q value s) before n t to s.entities (block_below p.blocks t.next block is.block_is) (number_below (put_parameter n q value s.transactions) n t (attributes-parameter s.transactions n q value ∙ is.found)) (mark_from s.transactions n t w.marked is.found) (raises-same s.entities)
+      within-entered (length p.blocks) (length p.entities) en ar (assign_to n q value s) before n t to s.entities (block_below p.blocks t.next block is.block_is) (number_below (put_parameter n q value s.transactions) n t (attributes-parameter s.transactions n q value ∙ is.found)) (mark_from s.transactions n t w.marked is.found) (raises-same s.entities)
   change-within (Arrives {en = en} {ar = ar} {s = s} b g row priority time block is none later passes owed few) w =
       within-arrives (length p.blocks) (length p.entities) en ar s w b priority time (block_below p.blocks b (blocks.Generate g) block) later
   change-within (Rests {en = en} {ar = ar} {s = s} n placement may settles) w = rests-within en ar n placement s may w
@@ -146,7 +146,7 @@ one_owed None k h = tt
 one_owed (Some most) k h = omega (arith, ltb-true k most h)
 
 -- one more arrival is scheduled
-pub limits-raised : (bs : List Block) (scheduled : List ℕ) (b : ℕ) (g : Generate) → block_at bs b ≡ Some (blocks.Generate g) → is_owed g.limit (at 0 scheduled b) ≡ true → AreWithinLimits bs scheduled → AreWithinLimits bs (raised b scheduled)
+pub limits-raised : (bs : List Block) (scheduled : List ℕ) (b : ℕ) (g : Generate) → block_at bs b ≡ Some (blocks.Generate g) → is_owed g.limit (at 0 scheduled b) ≡ true → AreWithinLimits bs scheduled → AreWithinLimits bs (with_one_more_at b scheduled)
 limits-raised bs scheduled b g is owed l = record {
   arrivals = by_entry 0 scheduled b (at 0 scheduled b + 1) (λ c k. (h : Generate) → block_at bs c ≡ Some (blocks.Generate h) → IfSome h.limit (λ limit. k ≤ limit))
       (λ h here. subst (λ (x : Generate). IfSome x.limit (λ limit. at 0 scheduled b + 1 ≤ limit)) (same_generate g h (sym is ∙ here)) (one_owed g.limit (at 0 scheduled b) owed))

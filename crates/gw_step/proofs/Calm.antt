@@ -12,8 +12,8 @@ use Rattle.gw_transactions.specs.Transactions.{LiveTransaction, live_count}
 use Rattle.gw_step.specs.declared.placement.Placement.{Placement}
 use Rattle.gw_step.specs.declared.placement.Placement.TheVariants.{JoinsDelayList, JoinsRetryList}
 use Rattle.gw_step.specs.State.{FutureEvent, State, priority_of}
-use Rattle.gw_step.specs.Changes.{waits_for, retries, woken, clock_moves}
-use Rattle.gw_step.specs.Placing.{placed}
+use Rattle.gw_step.specs.Changes.{waits_for, retries, wake, clock_moves}
+use Rattle.gw_step.specs.Placing.{place_by}
 use Rattle.gw_step.specs.Residence.{occurrences, active_numbers}
 use Rattle.gw_step.specs.Numbers.{AreFewLive}
 use Rattle.gw_step.specs.Typing.{WellTyped}
@@ -127,16 +127,16 @@ module _ (n : ℕ) (s : State) (active : s.lists.active ≡ Some n) where
   to_wake : (b : Bool) → s.stir ≡ b → (xs : List ℕ) → (if s.stir then 2 * length xs else 0) ≡ (if b then 2 * length xs else 0)
   to_wake b is xs = ap (λ (c : Bool). if c then 2 * length xs else 0) is
 
-  delayed : (e : ℕ) (b : Bool) → s.stir ≡ b → unrest (waits_for e n (if b then woken s else s)) + 1 ≤ unrest s
+  delayed : (e : ℕ) (b : Bool) → s.stir ≡ b → unrest (waits_for e n (if b then wake s else s)) + 1 ≤ unrest s
   delayed e true is = omega (arith, was_one, to_wake true is s.lists.retry, length-woken (priority_of s.transactions) s.lists.retry s.lists.current_events)
   delayed e false is = omega (arith, was_one)
 
-  retried : (b : Bool) → s.stir ≡ b → unrest (retries n (if b then woken s else s)) + 1 ≤ unrest s
+  retried : (b : Bool) → s.stir ≡ b → unrest (retries n (if b then wake s else s)) + 1 ≤ unrest s
   retried true is = omega (arith, was_one, to_wake true is s.lists.retry, length-woken (priority_of s.transactions) s.lists.retry s.lists.current_events)
   retried false is = omega (arith, was_one, to_wake false is s.lists.retry, to_wake false is (s.lists.retry ++ n ∷ []))
 
   -- the active transaction is refused
-  pub refused_calms : (placement : Placement) → Refuses placement → unrest (placed n placement s) + 1 ≤ unrest s
+  pub refused_calms : (placement : Placement) → Refuses placement → unrest (place_by n placement s) + 1 ≤ unrest s
   refused_calms (JoinsDelayList e) refuses = delayed e s.stir refl
   refused_calms JoinsRetryList refuses = retried s.stir refl
   refused_calms placement refuses = absurd refuses
@@ -158,7 +158,7 @@ not_due moment (e ∷ es) = by_test (int_le e.time moment) refl (not_due moment 
     by_test false is none = is
 
 -- the clock moves to where it is: all that are due join the current events chain, and the retry list is woken
-pub clock_calms : (s : State) (e : FutureEvent) (es : List FutureEvent) → s.lists.active ≡ None → s.lists.future_events ≡ e ∷ es → (woken (clock_moves e.time s)).clock ≡ s.clock → AreFew (woken (clock_moves e.time s)) → unrest (woken (clock_moves e.time s)) + 1 ≤ unrest s
+pub clock_calms : (s : State) (e : FutureEvent) (es : List FutureEvent) → s.lists.active ≡ None → s.lists.future_events ≡ e ∷ es → (wake (clock_moves e.time s)).clock ≡ s.clock → AreFew (wake (clock_moves e.time s)) → unrest (wake (clock_moves e.time s)) + 1 ≤ unrest s
 clock_calms s e es nobody first same few =
     let none : length (active_numbers s.lists.active) ≡ 0 = ap (λ a. length (active_numbers a)) nobody in
     let was : again (is_due s.clock s.lists.future_events) ≡ again true = ap (λ xs. again (is_due s.clock xs)) first ∙ ap again (due_now same) in
@@ -175,7 +175,7 @@ clock_calms s e es nobody first same few =
 -- STEPS WITH AN ENTRY
 
 -- an entry that is made stays made once the transaction is placed
-pub placed_grows : (n : ℕ) (placement : Placement) (s t : State) → sum s.entries + 1 ≤ sum t.entries → sum s.entries + 1 ≤ sum (placed n placement t).entries
+pub placed_grows : (n : ℕ) (placement : Placement) (s t : State) → sum s.entries + 1 ≤ sum t.entries → sum s.entries + 1 ≤ sum (place_by n placement t).entries
 placed_grows n placement s t grows = subst (λ xs. sum s.entries + 1 ≤ sum xs) (sym (placed-leaves n placement t).entries) grows
 
 -- no elementary change takes an entry back

@@ -28,7 +28,7 @@ use Rattle.gw_step.specs.declared.placement.Placement.TheVariants.{StaysActive, 
 use Rattle.gw_step.specs.Numbers.{made_in}
 use Rattle.gw_step.specs.State.{Assembly, State}
 use Rattle.gw_step.specs.Times.{parameters_of}
-use Rattle.gw_step.specs.Changes.{entered, enters_and_falls, copied, copies_made, is_of, assembled, come_to}
+use Rattle.gw_step.specs.Changes.{enter_next, enters_and_falls, copy_to, copies_made, is_of, assemble_all, come_to}
 use Rattle.gw_step.specs.Blocks.{split, assembly_at, joined_by_one, assemble_in, assemble, is_priority, set_priority, passes}
 use Rattle.gw_step.specs.Typing.{AreAsKnown}
 use Rattle.gw_step.proofs.Outcomes.{choose}
@@ -64,7 +64,7 @@ record IsThere (n : ℕ) (u : Transaction) (state : Row) (parameters : List (Opt
   same : parameters_of n s ≡ parameters
 
 -- it is there still, once a copy of it was made
-there-still : (n : ℕ) (u t : Transaction) (target : ℕ) (state : Row) (parameters : List (Option ℤ)) (s : State) → IsThere n u state parameters s → IsThere n u state parameters (copied n t target s)
+there-still : (n : ℕ) (u t : Transaction) (target : ℕ) (state : Row) (parameters : List (Option ℤ)) (s : State) → IsThere n u state parameters s → IsThere n u state parameters (copy_to n t target s)
 there-still n u t target state parameters s is =
     let v : Option LiveTransaction = Some (made_with (parameters_of n s) (record t { next = target })) in
     let below = number_below s.transactions n u is.found in
@@ -76,7 +76,7 @@ there-still n u t target state parameters s is =
     }
 
 -- one more lives then
-copied-live : (n : ℕ) (t : Transaction) (target : ℕ) (s : State) → live_count (copied n t target s).transactions ≤ live_count s.transactions + 1
+copied-live : (n : ℕ) (t : Transaction) (target : ℕ) (s : State) → live_count (copy_to n t target s).transactions ≤ live_count s.transactions + 1
 copied-live n t target s = omega (arith, written-live s.transactions (length s.transactions) (Some (made_with (parameters_of n s) (record t { next = target }))))
 
 module _ (p : Parts) (n target b : ℕ) (t u : Transaction) (block : Block) (row state : Row) (mark : t.mark ≡ u.mark) (block_is : block_at p.blocks b ≡ Some block) (row_is : own_row p b ≡ Some row) (along : Contains (edges p (own_table p) b block row) (move target state)) (may : MayBeEntered p target) (facilities : state.facilities ≡ []) (units : state.units ≡ []) (parameters : List (Option ℤ)) where
@@ -89,9 +89,9 @@ module _ (p : Parts) (n target b : ℕ) (t u : Transaction) (block : Block) (row
       subst (λ m. Trace p en ar (0 * weighs_there p target parameters) s en m 0 s) none (subst (λ c. Trace p en ar c s en ar 0 s) free Done)
   copies_traced (suc k) en ar s is few =
       let one : suc ar + k ≡ ar + suc k = omega arith in
-      subst (λ m. Trace p en ar (suc k * weighs_there p target parameters) s en m 0 (copies_made k n t target (copied n t target s))) one
+      subst (λ m. Trace p en ar (suc k * weighs_there p target parameters) s en m 0 (copies_made k n t target (copy_to n t target s))) one
       (Then (Copied n target b t u block row state is.found mark is.known block_is row_is along may facilities units (omega (arith, few)) (λ weighted. omega (arith, ap (weighs_there p target) is.same)))
-      (copies_traced k en (suc ar) (copied n t target s) (there-still n u t target state parameters s is) (omega (arith, few, copied-live n t target s))))
+      (copies_traced k en (suc ar) (copy_to n t target s) (there-still n u t target state parameters s is) (omega (arith, few, copied-live n t target s))))
 
 -- no copies are none
 none_made : (n : ℕ) (t : Transaction) (target : ℕ) (s : State) → copies_made 0 n t target s ≡ s
@@ -122,7 +122,7 @@ found-own block set xs a h =
 module _ (p : Parts) (s : State) (n : ℕ) (t : Transaction) (k : ℕ) where
   -- it falls to the next block as u, and is then placed so
   falls_and_rests : (block : Block) (row : Row) → Acts p s n t block row → (u : Transaction) (placement : Placement) → Becomes s t u → Contains (edges p (own_table p) t.next block row) (move (t.next + 1) row) → MayBeEntered p (t.next + 1)
-      → Rested p n placement (entered n u (t.next + 1) s) → credited placement (suc k) ≡ suc k → Settles p n placement (entered n u (t.next + 1) s) 0 0 → Paid p (1 + weighs_there p (t.next + 1) (parameters_of n s) + 0) (weighs_there p t.next (parameters_of n s) + 0) → Enters p k s n (entered n u (t.next + 1) s, placement)
+      → Rested p n placement (enter_next n u (t.next + 1) s) → credited placement (suc k) ≡ suc k → Settles p n placement (enter_next n u (t.next + 1) s) 0 0 → Paid p (1 + weighs_there p (t.next + 1) (parameters_of n s) + 0) (weighs_there p t.next (parameters_of n s) + 0) → Enters p k s n (enter_next n u (t.next + 1) s, placement)
   falls_and_rests block row acts u placement same along may rested none settles pays = record {
     entries = suc k;
     arrivals = made_in k;
@@ -208,13 +208,13 @@ module _ (p : Parts) (s : State) (n : ℕ) (t : Transaction) (k : ℕ) where
   -- ASSEMBLE
 
   -- another has come to an assembly, and leaves
-  joins : (size : ℕ) (row : Row) → Acts p s n t (blocks.Assemble size) row → (length row.facilities == 0) ≡ true → (a : Assembly) → assembly_at t.next t.set s ≡ Some a → Enters p k s n (joined_by_one a (entered n t t.next s), LeavesModel)
+  joins : (size : ℕ) (row : Row) → Acts p s n t (blocks.Assemble size) row → (length row.facilities == 0) ≡ true → (a : Assembly) → assembly_at t.next t.set s ≡ Some a → Enters p k s n (joined_by_one a (enter_next n t t.next s), LeavesModel)
   joins size row acts none a is =
       let last = has_entered p s n t (blocks.Assemble size) row acts in
       let found = found-own t.next t.set s.lists.assemblies a is in
-      let v = entered n t t.next s in
+      let v = enter_next n t t.next s in
       let may : Rested p n LeavesModel v = (acts.active, record { t = last.its; row = row; found = last.found; row_is = last.row_is; none = none }) in
-      choose (λ w. Enters p k s n (w, LeavesModel)) (nat_le a.missing 1) (assembled a v) (come_to a v)
+      choose (λ w. Enters p k s n (w, LeavesModel)) (nat_le a.missing 1) (assemble_all a v) (come_to a v)
       (λ last. record { entries = suc k; arrivals = made_in k; borrowed = 1; left = 0; settles = last_paid p s n t (blocks.Assemble size) row acts refl; trace = Then (EntersLast n t (blocks.Assemble size) row acts.is (present s.lists n acts.active) (last_borrowed p s n t (blocks.Assemble size) row acts)) (Then (Assembled a found) Done); may = may; few_entries = omega arith; few_arrivals = omega arith; grows = omega (arith, sum-raised t.next s.entries) })
       (λ more. record { entries = suc k; arrivals = made_in k; borrowed = 1; left = 0; settles = last_paid p s n t (blocks.Assemble size) row acts refl; trace = Then (EntersLast n t (blocks.Assemble size) row acts.is (present s.lists n acts.active) (last_borrowed p s n t (blocks.Assemble size) row acts)) (Then (Comes a found (above a.missing 1 more)) Done); may = may; few_entries = omega arith; few_arrivals = omega arith; grows = omega (arith, sum-raised t.next s.entries) })
 
@@ -245,7 +245,7 @@ module _ (p : Parts) (s : State) (n : ℕ) (t : Transaction) (k : ℕ) where
       let same : Becomes s t u = record { next = refl; mark = λ clock mark. mark } in
       safe_if (Enters p k s n) (is_priority value) _ _
       (λ fits. safe_leads p (Enters p k s n) (t.next + 1) _ may
-      (choose (λ placement. Enters p k s n (entered n u (t.next + 1) s, placement)) a.behind RestsBehind RestsAhead
+      (choose (λ placement. Enters p k s n (enter_next n u (t.next + 1) s, placement)) a.behind RestsBehind RestsAhead
       (λ behind. falls_and_rests (blocks.Priority a) row acts u RestsBehind same (at_first _ []) may acts.active refl refl (falls_paid p s n t (blocks.Priority a) row acts Falls [] refl (λ q. refl) 0))
       (λ ahead. falls_and_rests (blocks.Priority a) row acts u RestsAhead same (at_first _ []) may acts.active refl refl (falls_paid p s n t (blocks.Priority a) row acts Falls [] refl (λ q. refl) 0))))
       (λ unfit. tt)

@@ -34,7 +34,7 @@ use Rattle.gw_rules.specs.KindsLaws.{MayBeEntered, ReturnsHold, BlockHolds}
 use Rattle.gw_rules.specs.FlowCodes as codes
 use Rattle.gw_rules.specs.Entries.{lists}
 use Rattle.gw_rules.specs.Rows.{ParamKind, Num, Ret, Row, kind_of, return_blocks, owns, units_of, with_parameter, with_facility, without_facility, with_units}
-use Rattle.gw_operands.specs.Values.{answered}
+use Rattle.gw_operands.specs.Values.{evaluation_of}
 use Rattle.gw_rules.proofs.Parameters.{loop_is_number, return_is, kind_of_set, kind_of_other}
 use Rattle.gw_num.specs.Arithmetic.{fits_i64, difference_of}
 use Rattle.gw_rules.specs.Blocks.{capacity_at, move, edges, edges_from, chain_edges, edges_along, returns_read, after}
@@ -46,25 +46,25 @@ use Rattle.gw_entities.specs.declared.facilities.Facility.{Facility}
 use Rattle.gw_entities.specs.declared.storages.Storage.{Storage}
 use Rattle.gw_entities.specs.declared.contents.Contents.{Contents}
 use Rattle.gw_entities.specs.Contents.{holds}
-use Rattle.gw_entities.specs.Facility.{idle, seized, seizing, released, releasing, is_idle, is_owned_by, owns_any}
+use Rattle.gw_entities.specs.Facility.{idle, with_owner, seizure_by, without_owner, release_by, is_idle, is_owned_by, owns_any}
 use Rattle.gw_entities.specs.Storage as storages
-use Rattle.gw_entities.specs.Queue.{joined, departed, departing}
-use Rattle.gw_entities.specs.Tabulation.{Tabulation, tabulating}
+use Rattle.gw_entities.specs.Queue.{with_arrivals, with_departures, departure_of}
+use Rattle.gw_entities.specs.Tabulation.{Tabulation, tabulation_of}
 use Rattle.gw_step.specs.Numbers.{made_in}
 use Rattle.gw_step.specs.declared.placement.Placement.{Placement}
 use Rattle.gw_step.specs.declared.placement.Placement.TheVariants.{StaysActive, RestsUntil, JoinsDelayList, JoinsRetryList}
-use Rattle.gw_step.specs.Outcome.{Gives, ◌>>=◌, case_of, evaluated}
+use Rattle.gw_step.specs.Outcome.{Gives, ◌>>=◌, case_of, evaluation_outcome}
 use Rattle.gw_step.specs.State.{State, delay_list}
 use Rattle.gw_step.specs.Times.{moment_after, parameters_of}
-use Rattle.gw_step.specs.Changes.{entered, assigned, enters_and_falls, facility, storage, queue, switch, savevalue, table, put_facility, put_storage, put_queue, put_switch, put_savevalue, put_table}
-use Rattle.gw_step.specs.Placing.{placed}
-use Rattle.gw_step.specs.Blocks.{has_to_wait, leads, stays, until, advance, hand_over, release, admission, leave, join_queue, depart, transfer, chosen, passes_test, is_so, led_by, put_by, assign, both, loop, call, block_after, come_back, plus, mark, switch_after, logic, save, tabulate, terminate, effect, then_placed, meets}
+use Rattle.gw_step.specs.Changes.{enter_next, assign_to, enters_and_falls, facility, storage, queue, switch, savevalue, table, put_facility, put_storage, put_queue, put_switch, put_savevalue, put_table}
+use Rattle.gw_step.specs.Placing.{place_by}
+use Rattle.gw_step.specs.Blocks.{has_to_wait, leads, stays, until, advance, hand_over, release, admission, leave, join_queue, depart, transfer, choice_of, passes_test, is_so, led_by, put_by, assign, both, loop, call, block_after, come_back, plus, mark, switch_after, logic, save, tabulate, terminate, effect, then_placed, meets}
 use Rattle.gw_step.proofs.Outcomes.{OnGives, choose, on_when, on_any}
 use Rattle.gw_step.proofs.Residence.{at-le-sum}
 use Rattle.gw_step.proofs.Owning.{idle-released}
 use Rattle.gw_step.proofs.Drawn.{safe_later}
 use Rattle.gw_step.specs.Places.{block_of, row_of}
-use Rattle.gw_step.specs.Typing.{IsAsKnown, promised_units, content_of, awaited, WaitsFor}
+use Rattle.gw_step.specs.Typing.{IsAsKnown, promised_units, content_of, awaited_entity, WaitsFor}
 use Rattle.gw_step.proofs.Owning.{lists-none}
 use Rattle.gw_step.proofs.Operands.{good_units}
 use Rattle.gw_step.proofs.Balances.{balanced-nothing, balanced-parameters, balanced-switch, balanced-savevalue, balanced-table, balanced-seize, balanced-release, balanced-storage, balanced-queue, came_in, went_out}
@@ -103,31 +103,31 @@ owns_none (f ∷ fs) n h = ap (λ b. b || list_any (is_owned_by n) fs) (h 0) ∙
 -- WHAT ENTITIES ANSWER
 
 -- a facility that n doesn't own is seized where it is idle, and else has to be waited for
-seize_cases : (P : Option (Bool × Facility) → Type 0) (n : ℕ) (f : Facility) → is_owned_by n f ≡ false → (is_idle f ≡ true → P (Some (true, seized n f))) → P (Some (false, f)) → P (seizing n f)
+seize_cases : (P : Option (Bool × Facility) → Type 0) (n : ℕ) (f : Facility) → is_owned_by n f ≡ false → (is_idle f ≡ true → P (Some (true, with_owner n f))) → P (Some (false, f)) → P (seizure_by n f)
 seize_cases P n f mine free busy = by_tests (is_owned_by n f) (is_idle f) mine refl
   where
-    by_tests : (o i : Bool) → o ≡ false → is_idle f ≡ i → P (if◌then◌else◌ {A = Option (Bool × Facility)} o None (if◌then◌else◌ {A = Option (Bool × Facility)} i (Some (true, seized n f)) (Some (false, f))))
+    by_tests : (o i : Bool) → o ≡ false → is_idle f ≡ i → P (if◌then◌else◌ {A = Option (Bool × Facility)} o None (if◌then◌else◌ {A = Option (Bool × Facility)} i (Some (true, with_owner n f)) (Some (false, f))))
     by_tests true i h is = absurd (false≢true (sym h))
     by_tests false true h is = free is
     by_tests false false h is = busy
 
 -- units within the capacity are taken where they are free, and else have to be waited for
-enter_cases : (P : Option (Bool × Storage) → Type 0) (n : ℕ) (e : Storage) → storages.fits_capacity n e ≡ true → (storages.has_room n e ≡ true → P (Some (true, storages.entered n e))) → P (Some (false, e)) → P (storages.entering n e)
+enter_cases : (P : Option (Bool × Storage) → Type 0) (n : ℕ) (e : Storage) → storages.fits_capacity n e ≡ true → (storages.has_room n e ≡ true → P (Some (true, storages.with_entries n e))) → P (Some (false, e)) → P (storages.entry_of n e)
 enter_cases P n e fits free full = by_tests (storages.fits_capacity n e) (storages.has_room n e) fits refl
   where
-    by_tests : (f r : Bool) → f ≡ true → storages.has_room n e ≡ r → P (if◌then◌else◌ {A = Option (Bool × Storage)} f (if◌then◌else◌ {A = Option (Bool × Storage)} r (Some (true, storages.entered n e)) (Some (false, e))) None)
+    by_tests : (f r : Bool) → f ≡ true → storages.has_room n e ≡ r → P (if◌then◌else◌ {A = Option (Bool × Storage)} f (if◌then◌else◌ {A = Option (Bool × Storage)} r (Some (true, storages.with_entries n e)) (Some (false, e))) None)
     by_tests true true h is = free is
     by_tests true false h is = full
     by_tests false r h is = absurd (false≢true h)
 
-released_is : (n : ℕ) (f : Facility) → is_owned_by n f ≡ true → releasing n f ≡ Some (released f)
-released_is n f h = ap (λ b. if◌then◌else◌ {A = Option Facility} b (Some (released f)) None) h
+released_is : (n : ℕ) (f : Facility) → is_owned_by n f ≡ true → release_by n f ≡ Some (without_owner f)
+released_is n f h = ap (λ b. if◌then◌else◌ {A = Option Facility} b (Some (without_owner f)) None) h
 
-left_is : (n : ℕ) (e : Storage) → holds n e.contents ≡ true → storages.leaving n e ≡ Some (storages.left n e)
-left_is n e h = ap (λ b. if◌then◌else◌ {A = Option Storage} b (Some (storages.left n e)) None) h
+left_is : (n : ℕ) (e : Storage) → holds n e.contents ≡ true → storages.exit_of n e ≡ Some (storages.with_exits n e)
+left_is n e h = ap (λ b. if◌then◌else◌ {A = Option Storage} b (Some (storages.with_exits n e)) None) h
 
-departed_is : (n : ℕ) (q : Contents) → holds n q ≡ true → departing n q ≡ Some (departed n q)
-departed_is n q h = ap (λ b. if◌then◌else◌ {A = Option Contents} b (Some (departed n q)) None) h
+departed_is : (n : ℕ) (q : Contents) → holds n q ≡ true → departure_of n q ≡ Some (with_departures n q)
+departed_is n q h = ap (λ b. if◌then◌else◌ {A = Option Contents} b (Some (with_departures n q)) None) h
 
 -- a value of a kind, of each other that is known to be the same
 value_as : (value : Option ℤ) (kind known : Option ParamKind) → known ≡ kind → IsAsKnown kind value → IsAsKnown known value
@@ -176,16 +176,16 @@ parameter_read s n q b found =
     ∙ sym (ap (λ o. option_flatten (option_map (λ (t : LiveTransaction). at None t.parameters q) o)) found)
 
 -- an ASSIGN does to its parameter what it does to the value, where a constant is known
-assigned_so : (mode : Mode) (operand : Operand) (old value : ℤ) (height_was : ℕ) → TellsValue operand value → OnGives (λ new. Does (assigns mode operand) height_was (above new)) (evaluated (answered (put_by mode old value)))
+assigned_so : (mode : Mode) (operand : Operand) (old value : ℤ) (height_was : ℕ) → TellsValue operand value → OnGives (λ new. Does (assigns mode operand) height_was (above new)) (evaluation_outcome (evaluation_of (put_by mode old value)))
 assigned_so Set (Constant c) old value height_was tells = ap above tells
 assigned_so Set operand old value height_was tells = tt
-assigned_so mode operand old value height_was tells = on_any (evaluated (answered (put_by mode old value)))
+assigned_so mode operand old value height_was tells = on_any (evaluation_outcome (evaluation_of (put_by mode old value)))
 
 -- what is one less
-lowered : (old : ℤ) → OnGives (λ left. left ≡ old -ℤ pos 1) (evaluated (answered (difference_of old (pos 1))))
+lowered : (old : ℤ) → OnGives (λ left. left ≡ old -ℤ pos 1) (evaluation_outcome (evaluation_of (difference_of old (pos 1))))
 lowered old = by_fit (fits_i64 (old -ℤ pos 1))
   where
-    by_fit : (b : Bool) → OnGives (λ left. left ≡ old -ℤ pos 1) (evaluated (answered (if b then Ok (old -ℤ pos 1) else Err NumFault.Number)))
+    by_fit : (b : Bool) → OnGives (λ left. left ≡ old -ℤ pos 1) (evaluation_outcome (evaluation_of (if b then Ok (old -ℤ pos 1) else Err NumFault.Number)))
     by_fit true = refl
     by_fit false = tt
 
@@ -203,10 +203,10 @@ none_above (pos (suc b)) h = absurd (omega (arith, ints, h))
 none_above (negsuc b) h = refl
 
 -- a value that is entered into a table is one more
-counts_once : (value : ℤ) (v : Tabulation) → Safe (λ (new : Tabulation). new.count ≤ v.count + 1) (evaluated (answered (tabulating value v)))
+counts_once : (value : ℤ) (v : Tabulation) → Safe (λ (new : Tabulation). new.count ≤ v.count + 1) (evaluation_outcome (evaluation_of (tabulation_of value v)))
 counts_once value v = by_fit (fits_i64 (v.sum +ℤ value)) refl
   where
-    by_fit : (b : Bool) → fits_i64 (v.sum +ℤ value) ≡ b → Safe (λ (new : Tabulation). new.count ≤ v.count + 1) (evaluated (answered (tabulating value v)))
+    by_fit : (b : Bool) → fits_i64 (v.sum +ℤ value) ≡ b → Safe (λ (new : Tabulation). new.count ≤ v.count + 1) (evaluation_outcome (evaluation_of (tabulation_of value v)))
     by_fit true is = rw is (omega arith)
     by_fit false is = rw is tt
 
@@ -217,10 +217,10 @@ module _ (p : Parts) (each_block : (b : ℕ) (block : Block) → block_at p.bloc
       omega (arith, acts.typed.promised e, at-le-sum None (λ t. promised_units e (row_of p t)) s.transactions n refl, ap (promised_units e) (its_row p s.transactions n t block row acts.is))
 
   -- it waits for what its block asks for
-  asks : (block : Block) (row : Row) → Acts p s n t block row → (e : ℕ) → awaited block ≡ Some e → WaitsFor p e (at None s.transactions n)
+  asks : (block : Block) (row : Row) → Acts p s n t block row → (e : ℕ) → awaited_entity block ≡ Some e → WaitsFor p e (at None s.transactions n)
   asks block row acts e h =
       let bears = bearer_at s.transactions n t acts.is.found in
-      subst (WaitsFor p e) (sym bears.1) (ap (λ at. option_map_or awaited (block_of p at) None) (its_place p s.transactions n t block row acts.is) ∙ ap (λ b. option_map_or awaited b None) acts.is.block_is ∙ h)
+      subst (WaitsFor p e) (sym bears.1) (ap (λ at. option_map_or awaited_entity (block_of p at) None) (its_place p s.transactions n t block row acts.is) ∙ ap (λ b. option_map_or awaited_entity b None) acts.is.block_is ∙ h)
 
   -- ADVANCE AND THE FACILITIES
 
@@ -279,11 +279,11 @@ module _ (p : Parts) (each_block : (b : ℕ) (block : Block) → block_at p.bloc
       let rule = the_rule p t.next codes.already_owned (not (owns row f)) (blocks.Seize f) row refl acts.flow in
       let mine : is_owned_by n (facility f s) ≡ false = owner_as p s n t (blocks.Seize f) row acts f ∙ not-true (owns row f) rule in
       seize_cases
-      (λ r. Safe (Reaches p k s) (if has_to_wait r then Gives (placed n (JoinsDelayList f) s) else then_placed n (leads p.blocks (t.next + 1) (case_of r >>= λ x. stays (put_facility f x.1 (enters_and_falls n t s))))))
+      (λ r. Safe (Reaches p k s) (if has_to_wait r then Gives (place_by n (JoinsDelayList f) s) else then_placed n (leads p.blocks (t.next + 1) (case_of r >>= λ x. stays (put_facility f x.1 (enters_and_falls n t s))))))
       n (facility f s) mine
       (λ free.
       safe_placed p k s n _ (safe_leads p (Enters p k s n) (t.next + 1) _ may
-      (just_goes p s n t (blocks.Seize f) row acts k (t.next + 1) (with_facility f row) (put_facility f (seized n (facility f s)) s).entities (λ q. refl) (at_first _ []) may (balanced-seize p n f row s.entities below free) (falls_paid p s n t (blocks.Seize f) row acts Falls [] refl (λ q. refl) 0))))
+      (just_goes p s n t (blocks.Seize f) row acts k (t.next + 1) (with_facility f row) (put_facility f (with_owner n (facility f s)) s).entities (λ q. refl) (at_first _ []) may (balanced-seize p n f row s.entities below free) (falls_paid p s n t (blocks.Seize f) row acts Falls [] refl (λ q. refl) 0))))
       (refused p k s n (JoinsDelayList f) acts.active tt (acts.active, asks (blocks.Seize f) row acts f refl, below) refl (omega arith))
 
   pub safe_release : (f : ℕ) (row : Row) → Acts p s n t (blocks.Release f) row → Safe (Enters p k s n) (release p.blocks n t f s)
@@ -291,7 +291,7 @@ module _ (p : Parts) (each_block : (b : ℕ) (block : Block) → block_at p.bloc
       let may = first_may_be_entered p t.next _ [] acts.kinds.exits in
       let below = named_below p.entities (needs needed.Facility f) [] acts.kinds.entities in
       let owned = owner_as p s n t (blocks.Release f) row acts f ∙ the_rule p t.next codes.not_owner (owns row f) (blocks.Release f) row refl acts.flow in
-      let u : State = put_facility f (released (facility f s)) (enters_and_falls n t s) in
+      let u : State = put_facility f (without_owner (facility f s)) (enters_and_falls n t s) in
       let gone = goes p s n t (blocks.Release f) row acts k (made_in k) 0 0 t (t.next + 1) (without_facility f row) u.entities (unchanged s t) (λ q. refl) (at_first _ []) may (balanced-release p n f row s.entities below owned) (falls_paid p s n t (blocks.Release f) row acts Falls [] refl (λ q. refl) 0) in
       safe_leads p (Enters p k s n) (t.next + 1) _ may
       (subst (λ r. Safe (Enters p k s n) (case_of r >>= λ x. stays (hand_over p.blocks f (delay_list f s) (put_facility f x (enters_and_falls n t s))))) (sym (released_is n (facility f s) owned))
@@ -307,12 +307,12 @@ module _ (p : Parts) (each_block : (b : ℕ) (block : Block) → block_at p.bloc
       let fit = good_units p needed.Storage u acts.kinds.entities acts.kinds.constants in
       let rule = the_rule p t.next codes.over_capacity (nat_le u.number (capacity_at p.entities u.entity)) (blocks.Enter u) row refl acts.flow in
       enter_cases
-      (λ r. Safe (Reaches p k s) (if has_to_wait r then Gives (placed n (JoinsDelayList u.entity) s) else then_placed n (leads p.blocks (t.next + 1) (case_of r >>= λ x. stays (put_storage u.entity x.1 (enters_and_falls n t s))))))
+      (λ r. Safe (Reaches p k s) (if has_to_wait r then Gives (place_by n (JoinsDelayList u.entity) s) else then_placed n (leads p.blocks (t.next + 1) (case_of r >>= λ x. stays (put_storage u.entity x.1 (enters_and_falls n t s))))))
       u.number (storage u.entity s) (ap (nat_le u.number) (acts.typed.sized u.entity) ∙ rule)
       (λ free.
       safe_placed p k s n _ (safe_leads p (Enters p k s n) (t.next + 1) _ may
-      (just_goes p s n t (blocks.Enter u) row acts k (t.next + 1) (with_units u.entity (units_of row u.entity + u.number) row) (put_storage u.entity (storages.entered u.number (storage u.entity s)) s).entities (λ q. refl) (at_first _ []) may
-      (balanced-storage p n u.entity (units_of row u.entity + u.number) (storages.entered u.number (storage u.entity s)) row s.entities kind.0 kind.1 refl (omega arith) (λ _. leb-true _ _ free) (came_in u.number _) (omega (arith, fit.number))) (falls_paid p s n t (blocks.Enter u) row acts Falls [] refl (λ q. refl) 0))))
+      (just_goes p s n t (blocks.Enter u) row acts k (t.next + 1) (with_units u.entity (units_of row u.entity + u.number) row) (put_storage u.entity (storages.with_entries u.number (storage u.entity s)) s).entities (λ q. refl) (at_first _ []) may
+      (balanced-storage p n u.entity (units_of row u.entity + u.number) (storages.with_entries u.number (storage u.entity s)) row s.entities kind.0 kind.1 refl (omega arith) (λ _. leb-true _ _ free) (came_in u.number _) (omega (arith, fit.number))) (falls_paid p s n t (blocks.Enter u) row acts Falls [] refl (λ q. refl) 0))))
       (refused p k s n (JoinsDelayList u.entity) acts.active tt (acts.active, asks (blocks.Enter u) row acts u.entity refl, fit.entity) refl (omega arith))
 
   -- what a storage holds of the units that a row promises
@@ -325,9 +325,9 @@ module _ (p : Parts) (each_block : (b : ℕ) (block : Block) → block_at p.bloc
       let kind = is_storage p.entities u.entity acts.kinds.entities in
       let enough = leb-true u.number (units_of row u.entity) (the_rule p t.next codes.too_few_units (nat_le u.number (units_of row u.entity)) (blocks.Leave u) row refl acts.flow) in
       let within = held u row (kind_at p.entities u.entity) kind.0 kind.1 (inside (blocks.Leave u) row acts u.entity) in
-      let v : State = put_storage u.entity (storages.left u.number (storage u.entity s)) (enters_and_falls n t s) in
+      let v : State = put_storage u.entity (storages.with_exits u.number (storage u.entity s)) (enters_and_falls n t s) in
       let gone = goes p s n t (blocks.Leave u) row acts k (made_in k) 0 0 t (t.next + 1) (with_units u.entity (units_of row u.entity - u.number) row) v.entities (unchanged s t) (λ q. refl) (at_first _ []) may
-      (balanced-storage p n u.entity (units_of row u.entity - u.number) (storages.left u.number (storage u.entity s)) row s.entities kind.0 kind.1 refl (omega (arith, enough, within)) (λ before. omega (arith, before)) (went_out u.number _ (le-leb u.number (storage u.entity s).contents.content (omega (arith, enough, within)))) (omega arith)) (falls_paid p s n t (blocks.Leave u) row acts Falls [] refl (λ q. refl) 0) in
+      (balanced-storage p n u.entity (units_of row u.entity - u.number) (storages.with_exits u.number (storage u.entity s)) row s.entities kind.0 kind.1 refl (omega (arith, enough, within)) (λ before. omega (arith, before)) (went_out u.number _ (le-leb u.number (storage u.entity s).contents.content (omega (arith, enough, within)))) (omega arith)) (falls_paid p s n t (blocks.Leave u) row acts Falls [] refl (λ q. refl) 0) in
       safe_leads p (Enters p k s n) (t.next + 1) _ may
       (subst (λ r. Safe (Enters p k s n) (case_of r >>= λ x. stays (admission p.blocks u.entity (delay_list u.entity s) (put_storage u.entity x (enters_and_falls n t s))))) (sym (left_is u.number (storage u.entity s) (le-leb u.number (storage u.entity s).contents.content (omega (arith, enough, within)))))
       (let admitted = admits p each_block flow k (made_in k) v (change-keeps p flow gone acts.typed) u.entity (delay_list u.entity s) (λ m. omega arith) in entered_once p k s n _ (Then gone admitted) (omega (arith, sum-raised t.next s.entries, trace-grows p admitted))))
@@ -338,8 +338,8 @@ module _ (p : Parts) (each_block : (b : ℕ) (block : Block) → block_at p.bloc
       let kind = is_queue p.entities u.entity acts.kinds.entities in
       let fit = good_units p needed.Queue u acts.kinds.entities acts.kinds.constants in
       safe_leads p (Enters p k s n) (t.next + 1) _ may
-      (just_goes p s n t (blocks.Queue u) row acts k (t.next + 1) (with_units u.entity (units_of row u.entity + u.number) row) (put_queue u.entity (joined u.number (queue u.entity s)) s).entities (λ q. refl) (at_first _ []) may
-      (balanced-queue p n u.entity (units_of row u.entity + u.number) (joined u.number (queue u.entity s)) row s.entities kind (omega arith) (omega (arith, fit.number)) (λ h. omega (arith, h))) (falls_paid p s n t (blocks.Queue u) row acts Falls [] refl (λ q. refl) 0))
+      (just_goes p s n t (blocks.Queue u) row acts k (t.next + 1) (with_units u.entity (units_of row u.entity + u.number) row) (put_queue u.entity (with_arrivals u.number (queue u.entity s)) s).entities (λ q. refl) (at_first _ []) may
+      (balanced-queue p n u.entity (units_of row u.entity + u.number) (with_arrivals u.number (queue u.entity s)) row s.entities kind (omega arith) (omega (arith, fit.number)) (λ h. omega (arith, h))) (falls_paid p s n t (blocks.Queue u) row acts Falls [] refl (λ q. refl) 0))
 
   pub safe_depart : (u : Units) (row : Row) → Acts p s n t (blocks.Depart u) row → Safe (Enters p k s n) (depart p.blocks n t u s)
   safe_depart u row acts =
@@ -349,8 +349,8 @@ module _ (p : Parts) (each_block : (b : ℕ) (block : Block) → block_at p.bloc
       let within : units_of row u.entity ≤ (queue u.entity s).content = subst (λ k. units_of row u.entity ≤ content_of u.entity s.entities k) kind (inside (blocks.Depart u) row acts u.entity) in
       safe_leads p (Enters p k s n) (t.next + 1) _ may
       (subst (λ r. Safe (Enters p k s n) (case_of r >>= λ x. stays (put_queue u.entity x (enters_and_falls n t s)))) (sym (departed_is u.number (queue u.entity s) (le-leb u.number (queue u.entity s).content (omega (arith, enough, within)))))
-      (just_goes p s n t (blocks.Depart u) row acts k (t.next + 1) (with_units u.entity (units_of row u.entity - u.number) row) (put_queue u.entity (departed u.number (queue u.entity s)) s).entities (λ q. refl) (at_first _ []) may
-      (balanced-queue p n u.entity (units_of row u.entity - u.number) (departed u.number (queue u.entity s)) row s.entities kind (omega (arith, enough, within)) (omega arith) (λ h. omega (arith, h))) (falls_paid p s n t (blocks.Depart u) row acts Falls [] refl (λ q. refl) 0)))
+      (just_goes p s n t (blocks.Depart u) row acts k (t.next + 1) (with_units u.entity (units_of row u.entity - u.number) row) (put_queue u.entity (with_departures u.number (queue u.entity s)) s).entities (λ q. refl) (at_first _ []) may
+      (balanced-queue p n u.entity (units_of row u.entity - u.number) (with_departures u.number (queue u.entity s)) row s.entities kind (omega (arith, enough, within)) (omega arith) (λ h. omega (arith, h))) (falls_paid p s n t (blocks.Depart u) row acts Falls [] refl (λ q. refl) 0)))
 
   -- TRANSFERS
 
@@ -361,7 +361,7 @@ module _ (p : Parts) (each_block : (b : ℕ) (block : Block) → block_at p.bloc
   pub safe_transfer : (to : ℕ) (row : Row) → Acts p s n t (blocks.Transfer to) row → Safe (Enters p k s n) (transfer p.blocks n t to s)
   safe_transfer to row acts = goes_to (blocks.Transfer to) row acts to (at_first _ []) (first_may_be_entered p t.next _ [] acts.kinds.exits) (falls_paid p s n t (blocks.Transfer to) row acts (Goes to) [] refl (λ q. refl) 0)
 
-  pub safe_fraction : (f : Fraction) (drawn : ℤ) (row : Row) → Acts p s n t (blocks.TransferByFraction f) row → Safe (Enters p k s n) (transfer p.blocks n t (chosen t.next f drawn) s)
+  pub safe_fraction : (f : Fraction) (drawn : ℤ) (row : Row) → Acts p s n t (blocks.TransferByFraction f) row → Safe (Enters p k s n) (transfer p.blocks n t (choice_of t.next f drawn) s)
   safe_fraction f drawn row acts =
       let others : ℕ = leads_to t.next (goes_or_falls f.otherwise) in
       choose (λ to. Safe (Enters p k s n) (transfer p.blocks n t to s)) (int_lt drawn (pos f.thousandths)) f.target (unwrap_or f.otherwise (t.next + 1))
@@ -417,13 +417,13 @@ module _ (p : Parts) (each_block : (b : ℕ) (block : Block) → block_at p.bloc
 
   -- a parameter of it is set, and it goes along an edge of its block, where all other parameters are what they were
   with_assigned : (block : Block) (row state : Row) → Acts p s n t block row → (q : ℕ) (value : ℤ) (to : ℕ) → Contains (edges p (own_table p) t.next block row) (move to state) → MayBeEntered p to
-      → IsAsKnown (kind_of state q) (Some value) → ((r : ℕ) → r ≢ q → kind_of state r ≡ kind_of row r) → state.facilities ≡ row.facilities → state.units ≡ row.units → Paid p (1 + weighs_there p to (put None (parameters_of n s) q (Some value)) + 0) (weighs_there p t.next (parameters_of n s) + 0) → Enters p k s n (entered n t to (assigned n q value s), StaysActive)
+      → IsAsKnown (kind_of state q) (Some value) → ((r : ℕ) → r ≢ q → kind_of state r ≡ kind_of row r) → state.facilities ≡ row.facilities → state.units ≡ row.units → Paid p (1 + weighs_there p to (put None (parameters_of n s) q (Some value)) + 0) (weighs_there p t.next (parameters_of n s) + 0) → Enters p k s n (enter_next n t to (assign_to n q value s), StaysActive)
   with_assigned block row state acts q value to along may here others facilities units pays =
       entered_once p k s n _ (Then (goes_with p s n t block row acts k (made_in k) to state q value here others along may (balanced-parameters p n row state s.entities facilities units) pays) Done) (omega (arith, sum-raised t.next s.entries))
 
   -- and is known to be what it is set to
   sets : (block : Block) (row : Row) → Acts p s n t block row → (q : ℕ) (kind : ParamKind) (value : ℤ) (to : ℕ) → Contains (edges p (own_table p) t.next block row) (move to (with_parameter q kind row)) → MayBeEntered p to
-      → IsAsKnown (Some kind) (Some value) → Paid p (1 + weighs_there p to (put None (parameters_of n s) q (Some value)) + 0) (weighs_there p t.next (parameters_of n s) + 0) → Enters p k s n (entered n t to (assigned n q value s), StaysActive)
+      → IsAsKnown (Some kind) (Some value) → Paid p (1 + weighs_there p to (put None (parameters_of n s) q (Some value)) + 0) (weighs_there p t.next (parameters_of n s) + 0) → Enters p k s n (enter_next n t to (assign_to n q value s), StaysActive)
   sets block row acts q kind value to along may is pays =
       with_assigned block row (with_parameter q kind row) acts q value to along may (value_as (Some value) (Some kind) _ (kind_of_set q kind row) is) (λ r other. kind_of_other q r kind row (λ same. other (sym same))) refl refl pays
 
@@ -437,7 +437,7 @@ module _ (p : Parts) (each_block : (b : ℕ) (block : Block) → block_at p.bloc
   safe_assign a value row acts tells =
       let may = first_may_be_entered p t.next _ [] acts.kinds.exits in
       let height_was = height a.parameter (parameters_of n s) in
-      let outcome = evaluated (answered (put_by a.mode (unwrap_or (parameter_at n a.parameter s.transactions) (pos 0)) value)) in
+      let outcome = evaluation_outcome (evaluation_of (put_by a.mode (unwrap_or (parameter_at n a.parameter s.transactions) (pos 0)) value)) in
       safe_bind (λ new. Any new × Does (assigns a.mode a.value) height_was (above new)) (Enters p k s n) outcome _
       (safe_given Any (λ new. Does (assigns a.mode a.value) height_was (above new)) outcome (safe_answered _) (assigned_so a.mode a.value (unwrap_or (parameter_at n a.parameter s.transactions) (pos 0)) value height_was tells))
       (λ new does. safe_leads p (Enters p k s n) (t.next + 1) _ may (sets (blocks.Assign a) row acts a.parameter Num new (t.next + 1) (at_first _ []) may tt (falls_set_paid p s n t (blocks.Assign a) row acts Falls [] refl a.parameter new refl does.1)))
@@ -448,10 +448,10 @@ module _ (p : Parts) (each_block : (b : ℕ) (block : Block) → block_at p.bloc
       let old = some_of (parameter_at n l.parameter s.transactions) (value_is_set Num (parameter_at n l.parameter s.transactions) (known_value (blocks.Loop l) row acts l.parameter Num number)) in
       safe_found (Enters p k s n) (parameter_at n l.parameter s.transactions) old.0 _ old.1
       (let height_was : height l.parameter (parameters_of n s) ≡ above old.0 = (let bears = bearer_at s.transactions n t acts.is.found in ap (λ v. option_map_or above v 0) (parameter_read s n l.parameter bears.0 bears.1 ∙ old.1)) in
-      safe_bind (λ left. Any left × (left ≡ old.0 -ℤ pos 1)) (Enters p k s n) (evaluated (answered (difference_of old.0 (pos 1)))) _ (safe_given Any (λ left. left ≡ old.0 -ℤ pos 1) (evaluated (answered (difference_of old.0 (pos 1)))) (safe_answered _) (lowered old.0))
+      safe_bind (λ left. Any left × (left ≡ old.0 -ℤ pos 1)) (Enters p k s n) (evaluation_outcome (evaluation_of (difference_of old.0 (pos 1)))) _ (safe_given Any (λ left. left ≡ old.0 -ℤ pos 1) (evaluation_outcome (evaluation_of (difference_of old.0 (pos 1)))) (safe_answered _) (lowered old.0))
       (λ left lower.
       let here : IsAsKnown (kind_of row l.parameter) (Some left) = value_as (Some left) (Some Num) _ number tt in
-      choose (λ to. Safe (Enters p k s n) (leads p.blocks to (stays (entered n t to (assigned n l.parameter left s))))) (int_lt (pos 0) left) l.target (t.next + 1)
+      choose (λ to. Safe (Enters p k s n) (leads p.blocks to (stays (enter_next n t to (assign_to n l.parameter left s))))) (int_lt (pos 0) left) l.target (t.next + 1)
       (λ more.
       let may = second_may_be_entered p t.next _ _ [] acts.kinds.exits in
       safe_leads p (Enters p k s n) l.target _ may (with_assigned (blocks.Loop l) row row acts l.parameter left l.target (at_second (move (t.next + 1) row) _ []) may here (λ r other. refl) refl refl (other_set_paid p s n t (blocks.Loop l) row acts _ (Goes l.target) [] refl l.parameter left refl (height_was ∙ one_less old.0 left lower.1 (omega (arith, ints, more))))))
@@ -519,7 +519,7 @@ module _ (p : Parts) (each_block : (b : ℕ) (block : Block) → block_at p.bloc
   safe_save a value row acts =
       let may = first_may_be_entered p t.next _ [] acts.kinds.exits in
       let below = named_below p.entities (needs needed.Savevalue a.savevalue) _ acts.kinds.entities in
-      safe_bind Any (Enters p k s n) (evaluated (answered (put_by a.mode (savevalue a.savevalue s) value))) _ (safe_answered _)
+      safe_bind Any (Enters p k s n) (evaluation_outcome (evaluation_of (put_by a.mode (savevalue a.savevalue s) value))) _ (safe_answered _)
       (λ new _.
       safe_leads p (Enters p k s n) (t.next + 1) _ may
       (just_goes p s n t (blocks.Savevalue a) row acts k (t.next + 1) row (put_savevalue a.savevalue new s).entities (λ q. refl) (at_first _ []) may (balanced-savevalue p n a.savevalue new row s.entities below) (falls_paid p s n t (blocks.Savevalue a) row acts Falls [] refl (λ q. refl) 0)))
@@ -528,7 +528,7 @@ module _ (p : Parts) (each_block : (b : ℕ) (block : Block) → block_at p.bloc
   safe_tabulate e value row acts =
       let may = first_may_be_entered p t.next _ [] acts.kinds.exits in
       let below = named_below p.entities (needs needed.Table e) [] acts.kinds.entities in
-      safe_bind (λ (new : Tabulation). new.count ≤ (table e s).count + 1) (Enters p k s n) (evaluated (answered (tabulating value (table e s)))) _ (counts_once value (table e s))
+      safe_bind (λ (new : Tabulation). new.count ≤ (table e s).count + 1) (Enters p k s n) (evaluation_outcome (evaluation_of (tabulation_of value (table e s)))) _ (counts_once value (table e s))
       (λ new more.
       safe_leads p (Enters p k s n) (t.next + 1) _ may
       (just_goes p s n t (blocks.Tabulate e) row acts k (t.next + 1) row (put_table e new s).entities (λ q. refl) (at_first _ []) may (balanced-table p n e new row s.entities below more) (falls_paid p s n t (blocks.Tabulate e) row acts Falls [] refl (λ q. refl) 0)))

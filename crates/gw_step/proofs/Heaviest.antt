@@ -20,7 +20,7 @@ use Rattle.gw_step.specs.State.{State}
 use Rattle.gw_step.specs.Turning.{two_next}
 use Rattle.gw_step.specs.Numbers.{AreFewLive}
 use Rattle.gw_step.specs.Moments.{AreNoHigher, StatesWeighLittle}
-use Rattle.gw_step.specs.Weight.{height, added, weight_by, weight_in, weighs, owed_by, owes, weight, most_weight}
+use Rattle.gw_step.specs.Weight.{height, slope_addition, weight_by, weight_in, weighs, owed_by, owes, weight, most_weight}
 use Rattle.gw_step.proofs.Sums.{sum-le, sum-le_all, sum-tabulate_at}
 use Rattle.gw_step.proofs.Operands.{block_spelled}
 use Rattle.gw_step.proofs.Weighing.{weighs_at_most}
@@ -41,17 +41,17 @@ module _ (p : Parts) (spelled : HasSpelling p) where
   abbrev AreBelow : ℕ → List (Option ℤ) → Type 0
   AreBelow highest parameters = (q : ℕ) → height q parameters ≤ highest
 
-  slope_below : (slopes : List (Option (ℕ × ℕ))) (i : ℕ) → All (λ slope. IfSome slope SlopeFits) slopes → (highest : ℕ) (parameters : List (Option ℤ)) → AreBelow highest parameters → added (slice_index_or slopes i None) parameters ≤ greatest_weight * highest
+  slope_below : (slopes : List (Option (ℕ × ℕ))) (i : ℕ) → All (λ slope. IfSome slope SlopeFits) slopes → (highest : ℕ) (parameters : List (Option ℤ)) → AreBelow highest parameters → slope_addition (slice_index_or slopes i None) parameters ≤ greatest_weight * highest
   slope_below slopes i each highest parameters below = elim (cases_lt i (length slopes)) [
     | inl within ↦ by_slope (slice_index_or slopes i None) (each i None within)
-    | inr beyond ↦ omega (arith, ap (λ s. added s parameters) (get_or_past slopes i None beyond))
+    | inr beyond ↦ omega (arith, ap (λ s. slope_addition s parameters) (get_or_past slopes i None beyond))
   ]
     where
-      by_slope : (s : Option (ℕ × ℕ)) → IfSome s SlopeFits → added s parameters ≤ greatest_weight * highest
+      by_slope : (s : Option (ℕ × ℕ)) → IfSome s SlopeFits → slope_addition s parameters ≤ greatest_weight * highest
       by_slope None h = omega arith
       by_slope (Some slope) h = mul-le slope.1 (height slope.0 parameters) greatest_weight highest h.most (below slope.0)
 
-  slope_weighs : (b : ℕ) (highest : ℕ) (parameters : List (Option ℤ)) → AreBelow highest parameters → added (slope_at p.slopes b) parameters ≤ greatest_weight * highest
+  slope_weighs : (b : ℕ) (highest : ℕ) (parameters : List (Option ℤ)) → AreBelow highest parameters → slope_addition (slope_at p.slopes b) parameters ≤ greatest_weight * highest
   slope_weighs zero highest parameters below = omega arith
   slope_weighs (suc i) highest parameters below = slope_below p.slopes i spelled.limits.each_slope highest parameters below
 

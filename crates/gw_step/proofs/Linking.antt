@@ -23,7 +23,7 @@ use Rattle.gw_transactions.specs.Transactions.{attributes_at}
 use Rattle.gw_step.specs.Numbers.{made_in}
 use Rattle.gw_step.specs.State.{State, user_chain}
 use Rattle.gw_step.specs.Changes.{enters_and_falls, leaves_chain}
-use Rattle.gw_step.specs.Blocks.{link, first_unlinked, unlinked, taken_by, unlink}
+use Rattle.gw_step.specs.Blocks.{link, first_unlinked, unlink_members, taken_by, unlink}
 use Rattle.gw_step.specs.Residence.{occurrences}
 use Rattle.gw_step.specs.Typing.{IsPlaced, WellTyped}
 use Rattle.gw_step.proofs.Outcomes.{choose, by_option}
@@ -35,7 +35,7 @@ use Rattle.gw_step.proofs.AtBlock.{first_may_be_entered, named_below}
 use Rattle.gw_step.proofs.Paying.{one_plain}
 use Rattle.gw_step.proofs.Moving.{Acts, has_entered, unchanged, Enters, entered_once, safe_leads, at_first, goes, weighs_next, falls_paid, last_borrowed}
 use Rattle.gw_rules.specs.Weights.{chain_weight}
-use Rattle.gw_step.specs.Weight.{added, weighs_there}
+use Rattle.gw_step.specs.Weight.{slope_addition, weighs_there}
 use Rattle.gw_step.specs.Times.{parameters_of}
 use Rattle.gw_rules.specs.WeightsLaws.{Weighted}
 use Rattle.gw_step.proofs.Attributes.{bearer_at}
@@ -67,8 +67,8 @@ module _ (p : Parts) (flow : FlowHolds p (own_table p)) (c target : ℕ) (below 
       (λ none. Done)
 
   -- and so many, one after the other
-  unlinked_traced : (k en ar : ℕ) (s : State) → WellTyped p s → Trace p en ar 0 s en ar 0 (unlinked k c target s)
-  unfolding unlinked
+  unlinked_traced : (k en ar : ℕ) (s : State) → WellTyped p s → Trace p en ar 0 s en ar 0 (unlink_members k c target s)
+  unfolding unlink_members
   unlinked_traced zero en ar s ty = Done
   unlinked_traced (suc k) en ar s ty =
       let one = first_traced en ar s ty (user_chain c s) refl in
@@ -101,7 +101,7 @@ module _ (p : Parts) (s : State) (n : ℕ) (t : Transaction) (k : ℕ) where
         let on = All-tail (Arrives p) (move (t.next + 1) row) (members_move u.target (own_table p (targets.Chain u.chain))) acts.flow.each_edge in
         let enters : Trace p k (made_in k) 0 s (suc k) (made_in k) 0 (enters_and_falls n t s) =
         Then (goes p s n t (blocks.Unlink u) row acts k (made_in k) 0 0 t (t.next + 1) row s.entities (unchanged s t) (λ q. refl) (at_first _ _) may (balanced-nothing p n row s.entities) (falls_paid p s n t (blocks.Unlink u) row acts Falls [] refl (λ q. refl) 0)) Done in
-        let left = unlinked_traced p flow u.chain u.target below others on (λ parameters weighted some. let pays = (weighted.each_row t.next (blocks.Unlink u) row acts.is.block_is acts.is.row_is).chain in omega (arith, pays.1 some, ap (λ slope. added slope parameters) pays.0)) (taken_by u s) (suc k) (made_in k) (enters_and_falls n t s) (trace-keeps p flow enters acts.typed) in
+        let left = unlinked_traced p flow u.chain u.target below others on (λ parameters weighted some. let pays = (weighted.each_row t.next (blocks.Unlink u) row acts.is.block_is acts.is.row_is).chain in omega (arith, pays.1 some, ap (λ slope. slope_addition slope parameters) pays.0)) (taken_by u s) (suc k) (made_in k) (enters_and_falls n t s) (trace-keeps p flow enters acts.typed) in
         let made = entered_once p k s n _ (trace_on p enters left) (omega (arith, sum-raised t.next s.entries, trace-grows p left)) in
         safe_leads p (Enters p k s n) (t.next + 1) _ may
         (choose (Safe (Enters p k s n)) (taken_by u s == 0) _ _ (λ none. made) (λ some. safe_leads p (Enters p k s n) u.target _ others made))

@@ -17,11 +17,11 @@ use Rattle.gw_transactions.specs.declared.Transaction.{Transaction}
 use Rattle.gw_entities.specs.Facility.{idle, is_owned_by}
 use Rattle.gw_step.specs.declared.placement.Placement.{Placement}
 use Rattle.gw_step.specs.declared.placement.Placement.TheVariants.{StaysActive}
-use Rattle.gw_step.specs.Placing.{placed}
+use Rattle.gw_step.specs.Placing.{place_by}
 use Rattle.gw_step.specs.Numbers.{made_in}
 use Rattle.gw_step.specs.Outcome.{Outcome, Gives}
 use Rattle.gw_step.specs.State.{EntityStates, State, may_enter}
-use Rattle.gw_step.specs.Changes.{entered, assigned}
+use Rattle.gw_step.specs.Changes.{enter_next, assign_to}
 use Rattle.gw_step.specs.Times.{parameters_of}
 use Rattle.gw_step.specs.Blocks.{leads, then_placed}
 use Rattle.gw_step.specs.Typing.{IsAsKnown, lists_facility, WellTyped}
@@ -108,7 +108,7 @@ entered_once p k s n t xs grows = record { entries = suc k; arrivals = made_in k
 -- then it is placed
 pub safe_placed : (p : Parts) (k : ℕ) (s : State) (n : ℕ) (o : Outcome (State × Placement)) → Safe (Enters p k s n) o → Safe (Reaches p k s) (then_placed n o)
 safe_placed p k s n o h =
-    safe_bind (Enters p k s n) (Reaches p k s) o (λ e. Gives (placed n e.1 e.0)) h
+    safe_bind (Enters p k s n) (Reaches p k s) o (λ e. Gives (place_by n e.1 e.0)) h
     (λ e x. record {
       entries = credited e.1 x.entries;
       arrivals = x.arrivals;
@@ -120,7 +120,7 @@ safe_placed p k s n o h =
     })
 
 -- it was refused
-pub refused : (p : Parts) (k : ℕ) (s : State) (n : ℕ) (placement : Placement) → s.lists.active ≡ Some n → Refuses placement → Rested p n placement s → Settles p n placement s 0 0 → credited placement k ≤ suc k → Reaches p k s (placed n placement s)
+pub refused : (p : Parts) (k : ℕ) (s : State) (n : ℕ) (placement : Placement) → s.lists.active ≡ Some n → Refuses placement → Rested p n placement s → Settles p n placement s 0 0 → credited placement k ≤ suc k → Reaches p k s (place_by n placement s)
 refused p k s n placement active refuses may settles few = record { entries = credited placement k; arrivals = made_in k; borrowed = 0; trace = placed_traced p k (made_in k) 0 0 n placement s may settles; few_entries = few; few_arrivals = omega arith; moves = Calms (λ same few. refused_calms n s active placement refuses) }
 
 -- it enters its block as it is
@@ -130,7 +130,7 @@ unchanged s t = record { next = refl; mark = λ clock mark. mark }
 -- the transaction n, which was t, entered its block for the last time, and is at a row
 pub record HasEntered (p : Parts) (s : State) (n : ℕ) (t : Transaction) (row : Row) : Type 0 where
   pub its : LiveTransaction
-  pub found : at None (entered n t t.next s).transactions n ≡ Some its
+  pub found : at None (enter_next n t t.next s).transactions n ≡ Some its
   pub place_is : place its ≡ targets.Block t.next
   pub row_is : own_table p (place its) ≡ Some row
 
@@ -145,18 +145,18 @@ module _ (p : Parts) (s : State) (n : ℕ) (t : Transaction) (block : Block) (ro
 
   -- it goes along an edge
   pub goes : (en ar c d : ℕ) (u : Transaction) (to : ℕ) (state : Row) (h : EntityStates) → Becomes s t u → Knows row state → Contains (edges p (own_table p) t.next block row) (move to state) → MayBeEntered p to → Balanced p n (Some row) (Some state) s.entities h
-      → Paid p (1 + weighs_there p to (parameters_of n s) + d) (weighs_there p t.next (parameters_of n s) + c) → Change p en ar c s (suc en) ar d (record (entered n u to s) { entities = h })
+      → Paid p (1 + weighs_there p to (parameters_of n s) + d) (weighs_there p t.next (parameters_of n s) + c) → Change p en ar c s (suc en) ar d (record (enter_next n u to s) { entities = h })
   goes en ar c d u to state h same known along may balance pays = Goes n to t u block row state h acts.is same (present s.lists n acts.active) (λ q. as_before state q (known q)) along may balance (λ weighted. omega (arith, pays weighted, acts.weighs weighted))
 
   -- it goes along an edge with a parameter that is set: of this one the edge's state knows what it is set to, and of each other one what the row knows of it
   pub goes_with : (en ar : ℕ) (to : ℕ) (state : Row) (q : ℕ) (value : ℤ) → IsAsKnown (kind_of state q) (Some value) → ((r : ℕ) → r ≢ q → kind_of state r ≡ kind_of row r) → Contains (edges p (own_table p) t.next block row) (move to state) → MayBeEntered p to
-      → Balanced p n (Some row) (Some state) s.entities s.entities → Paid p (1 + weighs_there p to (put None (parameters_of n s) q (Some value)) + 0) (weighs_there p t.next (parameters_of n s) + 0) → Change p en ar 0 s (suc en) ar 0 (entered n t to (assigned n q value s))
+      → Balanced p n (Some row) (Some state) s.entities s.entities → Paid p (1 + weighs_there p to (put None (parameters_of n s) q (Some value)) + 0) (weighs_there p t.next (parameters_of n s) + 0) → Change p en ar 0 s (suc en) ar 0 (enter_next n t to (assign_to n q value s))
   goes_with en ar to state q value here others along may balance pays =
       GoesWith n to q value t block row state acts.is (present s.lists n acts.active) (by_entry None (parameters_of n s) q (Some value) (λ r v. IsAsKnown (kind_of state r) v) here (λ r other. as_before state r (others r other))) along may balance (λ weighted. omega (arith, pays weighted, acts.weighs weighted))
 
   -- and stays active, and nothing else happens
   pub just_goes : (k : ℕ) (to : ℕ) (state : Row) (h : EntityStates) → Knows row state → Contains (edges p (own_table p) t.next block row) (move to state) → MayBeEntered p to → Balanced p n (Some row) (Some state) s.entities h
-      → Paid p (1 + weighs_there p to (parameters_of n s) + 0) (weighs_there p t.next (parameters_of n s) + 0) → Enters p k s n (record (entered n t to s) { entities = h }, StaysActive)
+      → Paid p (1 + weighs_there p to (parameters_of n s) + 0) (weighs_there p t.next (parameters_of n s) + 0) → Enters p k s n (record (enter_next n t to s) { entities = h }, StaysActive)
   just_goes k to state h known along may balance pays = entered_once p k s n _ (Then (goes k (made_in k) 0 0 t to state h (unchanged s t) known along may balance pays) Done) (omega (arith, sum-raised t.next s.entries))
 
   -- what its row says of an owner, and what is inside at least
@@ -176,21 +176,21 @@ module _ (p : Parts) (s : State) (n : ℕ) (t : Transaction) (block : Block) (ro
       }
 
   -- it enters its block and goes on as u to a block, and has one next block: it weighs what that weighs
-  pub weighs_next : (u : Transaction) (to : ℕ) → two_next p (record u { current = u.next; next = to }) ≡ None → weight_in p (at None (entered n u to s).transactions n) ≡ weighs_there p to (parameters_of n s)
+  pub weighs_next : (u : Transaction) (to : ℕ) → two_next p (record u { current = u.next; next = to }) ≡ None → weight_in p (at None (enter_next n u to s).transactions n) ≡ weighs_there p to (parameters_of n s)
   weighs_next u to one =
       let bears = bearer_at s.transactions n t acts.is.found in
       let next : Transaction = record u { current = u.next; next = to } in
       ap (weight_in p) (written_at s.transactions n next bears.0 bears.1) ∙ weighs_one p (with_attributes next bears.0) (its_chain (at None s.transactions n) bears.0 None bears.1 acts.is.free) one ∙ ap (weighs_there p to) (own_parameters s.transactions n bears.0 bears.1)
 
   -- it enters a block that gives a choice, and stays at it: it weighs what the heavier of the two weighs
-  pub weighs_choice : (pair : ℕ × ℕ) → choice_at t.next block ≡ Some pair → weight_in p (at None (entered n t t.next s).transactions n) ≡ heavier p pair (parameters_of n s)
+  pub weighs_choice : (pair : ℕ × ℕ) → choice_at t.next block ≡ Some pair → weight_in p (at None (enter_next n t t.next s).transactions n) ≡ heavier p pair (parameters_of n s)
   weighs_choice pair is =
       let bears = bearer_at s.transactions n t acts.is.found in
       let last : Transaction = record t { current = t.next } in
       ap (weight_in p) (written_at s.transactions n last bears.0 bears.1) ∙ weighs_two p (with_attributes last bears.0) pair (its_chain (at None s.transactions n) bears.0 None bears.1 acts.is.free) (two_here p last block pair refl acts.is.block_is is) ∙ ap (heavier p pair) (own_parameters s.transactions n bears.0 bears.1)
 
   -- it enters its block and stays at it: it weighs no more than that
-  weighs_still : Weighted p → weight_in p (at None (entered n t t.next s).transactions n) ≤ weighs_there p t.next (parameters_of n s)
+  weighs_still : Weighted p → weight_in p (at None (enter_next n t t.next s).transactions n) ≤ weighs_there p t.next (parameters_of n s)
   weighs_still weighted =
       let bears = bearer_at s.transactions n t acts.is.found in
       let last : Transaction = record t { current = t.next } in
@@ -213,9 +213,9 @@ module _ (p : Parts) (s : State) (n : ℕ) (t : Transaction) (block : Block) (ro
   other_set_paid e way es is q value sets does = second_paid p t.next block row acts.is.block_is acts.is.row_is e way es is (parameters_of n s) (put None (parameters_of n s) q (Some value)) (set_makes block way q value (parameters_of n s) sets does) 0
 
   -- who enters its block for the last time pays the entry by the weight of its place
-  pub last_paid : choice_at t.next block ≡ None → Paid p 1 (weight_in p (at None (entered n t t.next s).transactions n) + 0)
+  pub last_paid : choice_at t.next block ≡ None → Paid p 1 (weight_in p (at None (enter_next n t t.next s).transactions n) + 0)
   last_paid plain weighted = omega (arith, weighs_next t t.next (one_plain p (record t { current = t.next }) block acts.is.block_is plain), weighted.least t.next block acts.is.block_is)
 
   -- the entry itself is borrowed until then
-  pub last_borrowed : Paid p (1 + weight_in p (at None (entered n t t.next s).transactions n) + 0) (weight_in p (at None s.transactions n) + 1)
+  pub last_borrowed : Paid p (1 + weight_in p (at None (enter_next n t t.next s).transactions n) + 0) (weight_in p (at None s.transactions n) + 1)
   last_borrowed weighted = omega (arith, weighs_still weighted, acts.weighs weighted)

@@ -23,7 +23,7 @@ use Rattle.gw_num.specs.Table.{at}
 use Rattle.gw_transactions.specs.Transactions.{LiveTransaction, parameters_at}
 use Rattle.gw_step.specs.Turning.{choice_at, choice_of, two_next}
 use Rattle.gw_transactions.specs.declared.Transaction.{Transaction}
-use Rattle.gw_step.specs.Weight.{height, added, weighs_there, heavier, weight_by, weight_in}
+use Rattle.gw_step.specs.Weight.{height, slope_addition, weighs_there, heavier, weight_by, weight_in}
 use Rattle.std.specs.Option.{option_map_or}
 use Rattle.std.proofs.lemmas.Nat.{mul-le}
 use Rattle.gw_num.specs.Table.{put}
@@ -82,7 +82,7 @@ its_weight_of_two p ts n t block row pair is two =
 -- SLOPES
 
 -- what a greater slope on the same parameter adds is more
-covered : (own : Option (ℕ × ℕ)) (slope : ℕ × ℕ) (parameters : List (Option ℤ)) → Covers own slope → slope.1 * height slope.0 parameters ≤ added own parameters
+covered : (own : Option (ℕ × ℕ)) (slope : ℕ × ℕ) (parameters : List (Option ℤ)) → Covers own slope → slope.1 * height slope.0 parameters ≤ slope_addition own parameters
 covered None slope parameters h = absurd h
 covered (Some own) slope parameters h =
     let same : own.1 * height own.0 parameters ≡ own.1 * height slope.0 parameters = ap (λ q. own.1 * height q parameters) h.0 in
@@ -113,13 +113,13 @@ own_height None parameters = 0
 own_height (Some own) parameters = height own.0 parameters
 
 -- what each slope on the parameter of another one adds, by how steep it is
-by_height : (own other : Option (ℕ × ℕ)) (parameters : List (Option ℤ)) → IsOn own other → added other parameters ≡ per_of other * own_height own parameters
+by_height : (own other : Option (ℕ × ℕ)) (parameters : List (Option ℤ)) → IsOn own other → slope_addition other parameters ≡ per_of other * own_height own parameters
 unfolding own_height
 by_height own None parameters on = omega arith
 by_height None (Some slope) parameters on = absurd on
 by_height (Some own) (Some slope) parameters on = ap (λ q. slope.1 * height q parameters) (sym on)
 
-by_own_height : (own : Option (ℕ × ℕ)) (parameters : List (Option ℤ)) → added own parameters ≡ per_of own * own_height own parameters
+by_own_height : (own : Option (ℕ × ℕ)) (parameters : List (Option ℤ)) → slope_addition own parameters ≡ per_of own * own_height own parameters
 unfolding own_height
 by_own_height None parameters = refl
 by_own_height (Some own) parameters = refl
@@ -143,7 +143,7 @@ module _ (p : Parts) (b : ℕ) (block : Block) (row : Row) (block_is : block_at 
   by_treatment there slope Changes old new pays does = absurd pays
 
   -- where a way leads that somebody goes, with the parameters that the block makes
-  by_slope : (way : Way) (there : ℕ) (slope : Option (ℕ × ℕ)) (old new : List (Option ℤ)) → PaysTo p b block way there slope → Makes block way old new → 1 + (there + added slope new) ≤ weighs_there p b old
+  by_slope : (way : Way) (there : ℕ) (slope : Option (ℕ × ℕ)) (old new : List (Option ℤ)) → PaysTo p b block way there slope → Makes block way old new → 1 + (there + slope_addition slope new) ≤ weighs_there p b old
   by_slope way there None old new pays makes = omega (arith, pays)
   by_slope way there (Some slope) old new pays makes = by_treatment there slope (treats block way slope.0) old new pays (makes slope.0)
 
@@ -172,7 +172,7 @@ module _ (p : Parts) (b : ℕ) (block : Block) (row : Row) (block_is : block_at 
       let m = own_height own parameters in
       let steep : (per_of fall + copies * per_of other) * m ≤ per_of own * m = mul-le _ m _ m pays.steep (omega arith) in
       let its = by_height own fall parameters pays.fall_on in
-      let theirs : copies * added other parameters ≡ copies * (per_of other * m) = ap (λ k. copies * k) (by_height own other parameters pays.target_on) in
+      let theirs : copies * slope_addition other parameters ≡ copies * (per_of other * m) = ap (λ k. copies * k) (by_height own other parameters pays.target_on) in
       omega (arith, pays.base, steep, its, theirs, by_own_height own parameters)
 
 -- WHO HAS TWO NEXT BLOCKS

@@ -30,8 +30,8 @@ use Rattle.gw_step.specs.Outcome.{Outcome, Gives, EndsBy, HasNoCase}
 use Rattle.gw_step.specs.State.{State, with_streams}
 use Rattle.gw_step.specs.Times.{environment_of_next, drawn_moment}
 use Rattle.gw_step.specs.Changes.{newcomer, arrives}
-use Rattle.gw_step.specs.Step.{scan, stepped, within_budget}
-use Rattle.gw_step.specs.Start.{nothing, first_moment, first_arrival, first_arrivals, started}
+use Rattle.gw_step.specs.Step.{scan, step_outcome, within_budget}
+use Rattle.gw_step.specs.Start.{nothing, first_moment, first_arrival, first_arrivals, start_outcome}
 use Rattle.gw_step.specs.Numbers.{made_in, IsWithin, AreWithinLimits, AreFewLive}
 use Rattle.gw_step.specs.Operands.{OperandsFit}
 use Rattle.gw_step.specs.Job.{Job, JobFits, IsBounded, IsReached, Step, Alone, after, then_step, start_of}
@@ -104,7 +104,7 @@ record Leads (j : Job) (s t : State) : Type 0 where
   bounded : IsBounded j t
   steps : t.steps ≡ s.steps + 1
 
-leads_from : (j : Job) (s t : State) (o : Outcome State) → IsBounded j s → s.ended ≡ None → scan j.parts s.lists.active s ≡ o → Numbered j (s.steps + 1) t → stepped j.budget s o ≡ Some t → Leads j s t
+leads_from : (j : Job) (s t : State) (o : Outcome State) → IsBounded j s → s.ended ≡ None → scan j.parts s.lists.active s ≡ o → Numbered j (s.steps + 1) t → step_outcome j.budget s o ≡ Some t → Leads j s t
 leads_from j s t (Gives u) b runs is n h =
     let same = some_is _ t h in
     subst (Leads j s) same
@@ -311,7 +311,7 @@ record Starts (j : Job) (s : State) : Type 0 where
   bounded : IsBounded j s
   steps : s.steps ≡ 0
 
-starts_from : (j : Job) (k : ℕ) (s : State) (o : Outcome State) → JobFits j → k ≤ 4096 → OnGives (Begun (length j.parts.blocks) (length j.parts.entities) (pos j.count) k) o → started (nothing j.parts j.count j.streams) o ≡ Some s → Starts j s
+starts_from : (j : Job) (k : ℕ) (s : State) (o : Outcome State) → JobFits j → k ≤ 4096 → OnGives (Begun (length j.parts.blocks) (length j.parts.entities) (pos j.count) k) o → start_outcome (nothing j.parts j.count j.streams) o ≡ Some s → Starts j s
 starts_from j k s (Gives t) fits few b is = subst (Starts j) (some_is t s is) (record { bounded = begun_bounded j k t t.ended fits few b; steps = b.steps })
 starts_from j k s (EndsBy end) fits few b is =
     let none : State = nothing j.parts j.count j.streams in

@@ -25,17 +25,17 @@ use Rattle.gw_transactions.specs.declared.Transaction.{Transaction}
 use Rattle.gw_transactions.specs.Transactions.{LiveTransaction, attributes_at}
 use Rattle.gw_step.specs.Numbers.{made_in}
 use Rattle.gw_step.specs.declared.ends.End.TheVariants.{Budget}
-use Rattle.gw_step.specs.Outcome.{Outcome, Gives, EndsBy, HasNoCase, evaluated}
+use Rattle.gw_step.specs.Outcome.{Outcome, Gives, EndsBy, HasNoCase, evaluation_outcome}
 use Rattle.gw_step.specs.State.{FutureEvent, State, with_streams}
 use Rattle.gw_operands.specs.Values.{operands}
 use Rattle.gw_step.specs.Times.{parameters_of, environment_of}
-use Rattle.gw_step.specs.Changes.{woken, clock_moves}
+use Rattle.gw_step.specs.Changes.{wake, clock_moves}
 use Rattle.gw_step.specs.Blocks.{refuses, the_value, link, effect, meets, act}
 use Rattle.gw_step.specs.declared.placement.Placement.TheVariants.{JoinsRetryList}
-use Rattle.gw_step.specs.Placing.{placed}
-use Rattle.gw_step.specs.Turning.{choice_at, choice_of, two_next, towards, turned}
+use Rattle.gw_step.specs.Placing.{place_by}
+use Rattle.gw_step.specs.Turning.{choice_at, choice_of, two_next, towards, turn_to}
 use Rattle.gw_step.specs.Weight.{weighs_there, weight_in}
-use Rattle.gw_step.specs.Step.{next_event, next_active, meets_one, refusal, tries, tries_both, goes_on, scan, within_budget, stepped, step}
+use Rattle.gw_step.specs.Step.{next_event, next_active, meets_one, refusal, tries, tries_both, goes_on, scan, within_budget, step_outcome, step}
 use Rattle.gw_step.specs.Residence.{occurrences, active_numbers}
 use Rattle.gw_step.specs.Job.{Job, Step, then_step, after, start_of}
 use Rattle.gw_step.proofs.Outcomes.{choose}
@@ -72,7 +72,7 @@ moves_after s streams t (Calms less) = Calms less
 moves_after s streams t (Ends ended less) = Ends ended less
 
 -- nor does a turn
-moves_turned : (s : State) (n : ℕ) (t : Transaction) (to : ℕ) (u : State) → Moves (turned n t to s) u → Moves s u
+moves_turned : (s : State) (n : ℕ) (t : Transaction) (to : ℕ) (u : State) → Moves (turn_to n t to s) u → Moves s u
 moves_turned s n t to u (MakesEntry grows) = MakesEntry grows
 moves_turned s n t to u (Calms less) = Calms less
 moves_turned s n t to u (Ends ended less) = Ends ended less
@@ -142,8 +142,8 @@ module _ (p : Parts) (each_return : All (ReturnsHold p) p.returns) (each_block :
   unfolding act
   safe_act s n t block row acts =
       let env = environment_of n t s in
-      safe_bind (λ read. Read s.streams read × TellsTime block read.0) (Reaches p k s) (evaluated (operands p env block s.streams)) _
-      (safe_given (Read s.streams) (λ read. TellsTime block read.0) (evaluated (operands p env block s.streams)) (safe_operands p sound env t.next block s.streams acts.kinds (are_read p sound.entities s n t block row acts)) (values_tell p env block s.streams))
+      safe_bind (λ read. Read s.streams read × TellsTime block read.0) (Reaches p k s) (evaluation_outcome (operands p env block s.streams)) _
+      (safe_given (Read s.streams) (λ read. TellsTime block read.0) (evaluation_outcome (operands p env block s.streams)) (safe_operands p sound env t.next block s.streams acts.kinds (are_read p sound.entities s n t block row acts)) (values_tell p env block s.streams))
       (λ read keeps.
       let u : State = with_streams read.1 s in
       safe_then (Reaches p k u) (Reaches p k s) (meets p n t block read.0 u)
@@ -174,7 +174,7 @@ module _ (p : Parts) (each_return : All (ReturnsHold p) p.returns) (each_block :
       let env = environment_of n t s in
       let answer : List ℤ × List ℕ → Outcome (Bool × List ℕ) = λ read. Gives (refuses n block.0 read.0 (with_streams read.1 s), read.1) in
       safe_found (λ (answer : Bool × List ℕ). KeepStreams s.streams answer.1) (block_at p.blocks t.next) block.0 _ block.1
-      (safe_bind (Read s.streams) (λ (answer : Bool × List ℕ). KeepStreams s.streams answer.1) (evaluated (operands p env block.0 s.streams)) answer (safe_operands p sound env t.next block.0 s.streams acts.1.kinds (are_read p sound.entities s n t block.0 acts.0 acts.1)) (λ read keeps. keeps))
+      (safe_bind (Read s.streams) (λ (answer : Bool × List ℕ). KeepStreams s.streams answer.1) (evaluation_outcome (operands p env block.0 s.streams)) answer (safe_operands p sound env t.next block.0 s.streams acts.1.kinds (are_read p sound.entities s n t block.0 acts.0 acts.1)) (λ read keeps. keeps))
 
   -- WHO HAS TWO
 
@@ -184,21 +184,21 @@ module _ (p : Parts) (each_return : All (ReturnsHold p) p.returns) (each_block :
   safe_tries s n t block row to otherwise here is along may pays else_safe =
       let typed = change-keeps p flow (turn 0 0 0) here.typed in
       let bears = bearer_at s.transactions n t here.found in
-      let there : IsActive p (turned n t to s) n (towards to t) = record { typed = typed; active = here.active; found = attributes_of _ _ (written_at s.transactions n (towards to t) bears.0 bears.1) } in
+      let there : IsActive p (turn_to n t to s) n (towards to t) = record { typed = typed; active = here.active; found = attributes_of _ _ (written_at s.transactions n (towards to t) bears.0 bears.1) } in
       let one : Weighted p → two_next p (towards to t) ≡ None = λ weighted. one_apart p (towards to t) (pays weighted).0 in
-      safe_bind (λ (answer : Bool × List ℕ). KeepStreams s.streams answer.1) (Reaches p k s) (refusal p n (towards to t) (turned n t to s)) _ (safe_refusal (turned n t to s) n (towards to t) there one)
+      safe_bind (λ (answer : Bool × List ℕ). KeepStreams s.streams answer.1) (Reaches p k s) (refusal p n (towards to t) (turn_to n t to s)) _ (safe_refusal (turn_to n t to s) n (towards to t) there one)
       (λ answer keeps.
-      safe_if (Reaches p k s) answer.0 (otherwise (with_streams answer.1 s)) (meets_one p n (towards to t) (turned n t to s))
+      safe_if (Reaches p k s) answer.0 (otherwise (with_streams answer.1 s)) (meets_one p n (towards to t) (turn_to n t to s))
       (λ refused. safe_then (Reaches p k (with_streams answer.1 s)) (Reaches p k s) (otherwise (with_streams answer.1 s)) (else_safe answer.1)
       (λ u x. record { entries = x.entries; arrivals = x.arrivals; borrowed = x.borrowed; trace = Then (Draws answer.1 keeps) x.trace; few_entries = x.few_entries; few_arrivals = x.few_arrivals; moves = moves_after s answer.1 u x.moves }))
-      (λ passes. safe_then (Reaches p k (turned n t to s)) (Reaches p k s) (meets_one p n (towards to t) (turned n t to s)) (safe_meets_one (turned n t to s) n (towards to t) there one)
+      (λ passes. safe_then (Reaches p k (turn_to n t to s)) (Reaches p k s) (meets_one p n (towards to t) (turn_to n t to s)) (safe_meets_one (turn_to n t to s) n (towards to t) there one)
       (λ u x. record { entries = x.entries; arrivals = x.arrivals; borrowed = x.borrowed; trace = Then (turn k (made_in k) x.borrowed) x.trace; few_entries = x.few_entries; few_arrivals = x.few_arrivals; moves = moves_turned s n t to u x.moves })))
     where
-      turn : (en ar c : ℕ) → Change p en ar c s en ar c (turned n t to s)
+      turn : (en ar c : ℕ) → Change p en ar c s en ar c (turn_to n t to s)
       turn en ar c = Turns n to t block row is (present s.lists n here.active) along may (λ weighted. omega (arith, (pays weighted).1))
 
   -- it turns to either
-  turns_typed : (s : State) (n : ℕ) (t : Transaction) (block : Block) (pair : ℕ × ℕ) → IsActive p s n t → block_at p.blocks t.next ≡ Some block → choice_at t.next block ≡ Some pair → WellTyped p (turned n t pair.0 s) × WellTyped p (turned n t pair.1 s)
+  turns_typed : (s : State) (n : ℕ) (t : Transaction) (block : Block) (pair : ℕ × ℕ) → IsActive p s n t → block_at p.blocks t.next ≡ Some block → choice_at t.next block ≡ Some pair → WellTyped p (turn_to n t pair.0 s) × WellTyped p (turn_to n t pair.1 s)
   turns_typed s n t (blocks.TransferBoth two) pair here there is =
       let first : ℕ = leads_to t.next (goes_or_falls two.first) in
       let its : (first, two.second) ≡ pair = cc in
@@ -206,11 +206,11 @@ module _ (p : Parts) (each_return : All (ReturnsHold p) p.returns) (each_block :
       let kinds = each_block t.next (blocks.TransferBoth two) there in
       let to_first = turns p flow s here.typed n first t (blocks.TransferBoth two) row.0 row.1 (present s.lists n here.active) (at_first _ (move two.second row.0 ∷ [])) (first_may_be_entered p t.next _ (at_once (Goes two.second) ∷ []) kinds.exits) in
       let to_second = turns p flow s here.typed n two.second t (blocks.TransferBoth two) row.0 row.1 (present s.lists n here.active) (at_second (move first row.0) _ []) (second_may_be_entered p t.next _ _ [] kinds.exits) in
-      subst (λ (x : ℕ × ℕ). WellTyped p (turned n t x.0 s) × WellTyped p (turned n t x.1 s)) its (to_first, to_second)
+      subst (λ (x : ℕ × ℕ). WellTyped p (turn_to n t x.0 s) × WellTyped p (turn_to n t x.1 s)) its (to_first, to_second)
   turns_typed s n t block pair here there is = absurd cc
 
   -- refused at both it rests, where it is
-  safe_rests : (s : State) (n : ℕ) → s.lists.active ≡ Some n → Reaches p k s (placed n JoinsRetryList s)
+  safe_rests : (s : State) (n : ℕ) → s.lists.active ≡ Some n → Reaches p k s (place_by n JoinsRetryList s)
   safe_rests s n active = refused p k s n JoinsRetryList active tt active refl (omega arith)
 
   drawn : (s : State) (n : ℕ) (t : Transaction) (streams : List ℕ) → IsActive p s n t → IsActive p (with_streams streams s) n t
@@ -224,9 +224,9 @@ module _ (p : Parts) (each_return : All (ReturnsHold p) p.returns) (each_block :
       let kinds = each_block t.next block there in
       let weighs = its_weight_of_two p s.transactions n t block row.0 pair row.1 (two_here p t block pair same there refl) in
       let paid = λ (weighted : Weighted p). choice_paid p weighted t.next block row.0 pair (parameters_of n s) there row.1.row_is refl in
-      safe_tries s n t block row.0 pair.0 (λ u. tries p n t pair.1 (λ v. Gives (placed n JoinsRetryList v)) u) here row.1 (at_first _ (move two.second row.0 ∷ [])) (first_may_be_entered p t.next _ (at_once (Goes two.second) ∷ []) kinds.exits)
+      safe_tries s n t block row.0 pair.0 (λ u. tries p n t pair.1 (λ v. Gives (place_by n JoinsRetryList v)) u) here row.1 (at_first _ (move two.second row.0 ∷ [])) (first_may_be_entered p t.next _ (at_once (Goes two.second) ∷ []) kinds.exits)
       (λ weighted. ((λ to_it. (paid weighted).first_other (sym same ∙ to_it)), omega (arith, weighs, (paid weighted).first)))
-      (λ streams. safe_tries (with_streams streams s) n t block row.0 pair.1 (λ v. Gives (placed n JoinsRetryList v)) (drawn s n t streams here) row.1 (at_second (move pair.0 row.0) _ []) (second_may_be_entered p t.next _ _ [] kinds.exits)
+      (λ streams. safe_tries (with_streams streams s) n t block row.0 pair.1 (λ v. Gives (place_by n JoinsRetryList v)) (drawn s n t streams here) row.1 (at_second (move pair.0 row.0) _ []) (second_may_be_entered p t.next _ _ [] kinds.exits)
       (λ weighted. ((λ to_it. (paid weighted).second_other (sym same ∙ to_it)), omega (arith, weighs, (paid weighted).second)))
       (λ later. safe_rests (with_streams later s) n here.active))
 
@@ -259,7 +259,7 @@ module _ (p : Parts) (each_return : All (ReturnsHold p) p.returns) (each_block :
 
   safe_events : (s : State) → s.lists.active ≡ None → (events : List FutureEvent) → s.lists.future_events ≡ events → Safe (Reaches p k s) (next_event events s)
   safe_events s nobody [] is = tt
-  safe_events s nobody (e ∷ es) is = apart s (woken (clock_moves e.time s)) (Then (ClockMoves e es is) (Then Woken Done)) (Calms (λ same few. clock_calms s e es nobody is same few))
+  safe_events s nobody (e ∷ es) is = apart s (wake (clock_moves e.time s)) (Then (ClockMoves e es is) (Then Woken Done)) (Calms (λ same few. clock_calms s e es nobody is same few))
 
   safe_chain : (s : State) → s.lists.active ≡ None → (ns : List ℕ) → s.lists.current_events ≡ ns → Safe (Reaches p k s) (next_active ns s)
   safe_chain s nobody [] is = safe_events s nobody s.lists.future_events refl
@@ -278,7 +278,7 @@ module _ (p : Parts) (each_return : All (ReturnsHold p) p.returns) (each_block :
   within_traced budget s t x =
       choose (Reaches p k s) (is_none t.ended && (t.steps == budget)) (record t { ended = Some Budget }) t (λ spent. reaches_on s t (record t { ended = Some Budget }) x (Marks t.steps (Some Budget)) (moves_marked s t t.steps (Some Budget) (λ some. refl) x.moves)) (λ left. x)
 
-  stepped_traced : (budget : ℕ) (s t : State) (o : Outcome State) → Safe (Reaches p k s) o → stepped budget s o ≡ Some t → Reaches p k s t
+  stepped_traced : (budget : ℕ) (s t : State) (o : Outcome State) → Safe (Reaches p k s) o → step_outcome budget s o ≡ Some t → Reaches p k s t
   stepped_traced budget s t (Gives u) h is =
       let same : within_budget budget (record u { steps = s.steps + 1 }) ≡ t = cc in
       subst (Reaches p k s) same (within_traced budget s (record u { steps = s.steps + 1 }) (reaches_on s u (record u { steps = s.steps + 1 }) h (Marks (s.steps + 1) u.ended) (moves_marked s u (s.steps + 1) u.ended (λ some. some) h.moves)))
@@ -287,7 +287,7 @@ module _ (p : Parts) (each_return : All (ReturnsHold p) p.returns) (each_block :
       subst (Reaches p k s) same (apart s (record s { steps = s.steps + 1; ended = Some end }) (Then (Marks (s.steps + 1) (Some end)) Done) (Ends refl (omega arith)))
   stepped_traced budget s t HasNoCase h is = absurd h
 
-  stepped_leads : (budget : ℕ) (s : State) (o : Outcome State) → Safe (Reaches p k s) o → (t : State) × (stepped budget s o ≡ Some t)
+  stepped_leads : (budget : ℕ) (s : State) (o : Outcome State) → Safe (Reaches p k s) o → (t : State) × (step_outcome budget s o ≡ Some t)
   stepped_leads budget s (Gives u) h = (within_budget budget (record u { steps = s.steps + 1 }), refl)
   stepped_leads budget s (EndsBy end) h = (record s { steps = s.steps + 1; ended = Some end }, refl)
   stepped_leads budget s HasNoCase h = absurd h
@@ -297,7 +297,7 @@ module _ (p : Parts) (each_return : All (ReturnsHold p) p.returns) (each_block :
   unfolding step
   step_traced budget s t ty is = by_test (is_none s.ended) is
     where
-      by_test : (b : Bool) → (if b then stepped budget s (scan p s.lists.active s) else None) ≡ Some t → Reaches p k s t
+      by_test : (b : Bool) → (if b then step_outcome budget s (scan p s.lists.active s) else None) ≡ Some t → Reaches p k s t
       by_test true is = stepped_traced budget s t (scan p s.lists.active s) (safe_scan s ty s.lists.active refl) is
       by_test false is = absurd cc
 
@@ -305,7 +305,7 @@ module _ (p : Parts) (each_return : All (ReturnsHold p) p.returns) (each_block :
   unfolding step
   step_leads budget s ty runs =
       let found = stepped_leads budget s (scan p s.lists.active s) (safe_scan s ty s.lists.active refl) in
-      (found.0, ap (λ e. if is_none e then stepped budget s (scan p s.lists.active s) else None) runs ∙ found.1)
+      (found.0, ap (λ e. if is_none e then step_outcome budget s (scan p s.lists.active s) else None) runs ∙ found.1)
 
 -- THE LAWS
 

@@ -8,7 +8,7 @@ use Rattle.gw_blocks.specs.declared.parts.Block.TheVariants as blocks
 use Rattle.gw_blocks.specs.Grammar.{OperandFits}
 use Rattle.gw_object.specs.declared.parts.Parts.{Parts}
 use Rattle.gw_operands.specs.Environment.{Environment}
-use Rattle.gw_operands.specs.Sources.{evaluated}
+use Rattle.gw_operands.specs.Sources.{evaluation_operands}
 use Rattle.gw_step.specs.Operands.{environment_at, MayEvaluate}
 use Rattle.gw_step.specs.Safety.{ParametersSuffice, IntervalsAskForNothing}
 use Rattle.gw_step.proofs.Operands.{block_spelled, evaluated_spelled}
@@ -23,7 +23,7 @@ may_be_evaluated : (p : Parts) (env : Environment) (os : List Operand) → AreRe
 may_be_evaluated p env os read fits i d within = record { holds = (read i d within).holds; fits = fits i d within; set = (read i d within).set }
 
 -- a TRANSFER BOTH evaluates nothing
-nothing_read : (p : Parts) (env : Environment) (b : ℕ) (block : Block) (pair : ℕ × ℕ) → choice_at b block ≡ Some pair → AreRead p env (evaluated p.entities block)
+nothing_read : (p : Parts) (env : Environment) (b : ℕ) (block : Block) (pair : ℕ × ℕ) → choice_at b block ≡ Some pair → AreRead p env (evaluation_operands p.entities block)
 nothing_read p env b (blocks.TransferBoth two) pair is = All-nil (IsRead p env)
 nothing_read p env b block pair is = absurd cc
 
@@ -32,7 +32,7 @@ parameters_suffice p s checked spelled ty n t block active found there =
     let sound = sound_of p checked in
     may_be_evaluated p _ _ (by_choice (choice_at t.next block) refl) (evaluated_spelled p.entities block spelled.limits.each_entity (block_spelled p.blocks t.next block there spelled.limits.each_block))
   where
-    by_choice : (o : Option (ℕ × ℕ)) → choice_at t.next block ≡ o → AreRead p (environment_at block n t s) (evaluated p.entities block)
+    by_choice : (o : Option (ℕ × ℕ)) → choice_at t.next block ≡ o → AreRead p (environment_at block n t s) (evaluation_operands p.entities block)
     by_choice None is =
         let sound = sound_of p checked in
         let acts = acts_at p sound.entities (kinds_of p checked) (flow_of p checked) s ty n t block active found there (λ weighted. one_plain p t block there is) in

@@ -42,10 +42,10 @@ use Rattle.gw_entities.specs.Storage as storages
 use Rattle.gw_step.specs.declared.ends.End.{End}
 use Rattle.gw_step.specs.declared.placement.Placement.{Placement}
 use Rattle.gw_step.specs.declared.placement.Placement.TheVariants.{StaysActive, RestsUntil, JoinsDelayList, JoinsRetryList, RestsAhead, RestsBehind, AwaitsSet, JoinsChain, LeavesModel}
-use Rattle.gw_step.specs.Placing.{placed_at, placed}
-use Rattle.gw_step.specs.Turning.{turned}
+use Rattle.gw_step.specs.Placing.{placed_at, place_by}
+use Rattle.gw_step.specs.Turning.{turn_to}
 use Rattle.gw_step.specs.State.{FutureEvent, Assembly, Lists, EntityStates, State, with_streams, priority_of, delay_list, user_chain, without}
-use Rattle.gw_step.specs.Changes.{newcomer, copied, rests_ahead, rests_behind, awaits_set, is_of, assembled, one_fewer, come_to, joins_chain, leaves_chain, entered, assigned, destroyed, arrives, rests_until, waits_for, retries, called_from, woken, counted, time_passes, clock_moves}
+use Rattle.gw_step.specs.Changes.{newcomer, copy_to, rests_ahead, rests_behind, awaits_set, is_of, assemble_all, one_fewer, come_to, joins_chain, leaves_chain, enter_next, assign_to, destroy, arrives, rests_until, waits_for, retries, called_from, wake, count_down, time_passes, clock_moves}
 use Rattle.gw_step.specs.Residence.{EachResidesOnce, occurrences, active_numbers, occurrences_in}
 use Rattle.gw_step.proofs.Residence.{one_if, at_most_one, same_number, other_number, alone, occurrences-one, occurrences-joined, occurrences-without, occurrences-linked, resides-linked, resides-unlinked, resides-entered, resides-assigned, resides-destroyed, resides-rests, resides-arrives, resides-active, resides-clock, resides-waits, resides-called, resides-retries, resides-woken, resides-ahead, resides-behind, resides-copied, resides-awaits, resides-assembled, resides-come}
 use Rattle.gw_step.proofs.Follows.{at-map_same, nothing-after}
@@ -159,32 +159,32 @@ Settles p n placement s c d = c ≡ d
 pub data Change (p : Parts) : ℕ → ℕ → ℕ → State → ℕ → ℕ → ℕ → State → Type 0 where
   -- a transaction enters its block and goes along one of its edges, and what the entities hold is in balance with that
   Goes : {en ar c d : ℕ} {s : State} (n to : ℕ) (t u : Transaction) (block : Block) (row state : Row) (h : EntityStates) → IsAt p s.transactions n t block row → Becomes s t u → IsPresent s.lists n → AreAsKnown (Some state) (parameters_of n s)
-      → Contains (edges p (own_table p) t.next block row) (move to state) → MayBeEntered p to → Balanced p n (Some row) (Some state) s.entities h → Paid p (1 + weighs_there p to (parameters_of n s) + d) (weight_in p (at None s.transactions n) + c) → Change p en ar c s (suc en) ar d (record (entered n u to s) { entities = h })
+      → Contains (edges p (own_table p) t.next block row) (move to state) → MayBeEntered p to → Balanced p n (Some row) (Some state) s.entities h → Paid p (1 + weighs_there p to (parameters_of n s) + d) (weight_in p (at None s.transactions n) + c) → Change p en ar c s (suc en) ar d (record (enter_next n u to s) { entities = h })
   -- a transaction enters its block, and stays at it: it goes nowhere from there, or has two next blocks from then on
-  EntersLast : {en ar c d : ℕ} {s : State} (n : ℕ) (t : Transaction) (block : Block) (row : Row) → IsAt p s.transactions n t block row → IsPresent s.lists n → Paid p (1 + weight_in p (at None (entered n t t.next s).transactions n) + d) (weight_in p (at None s.transactions n) + c) → Change p en ar c s (suc en) ar d (entered n t t.next s)
+  EntersLast : {en ar c d : ℕ} {s : State} (n : ℕ) (t : Transaction) (block : Block) (row : Row) → IsAt p s.transactions n t block row → IsPresent s.lists n → Paid p (1 + weight_in p (at None (enter_next n t t.next s).transactions n) + d) (weight_in p (at None s.transactions n) + c) → Change p en ar c s (suc en) ar d (enter_next n t t.next s)
   -- a transaction turns to a block to which an edge of its block leads, and enters nothing
-  Turns : {en ar c d : ℕ} {s : State} (n to : ℕ) (t : Transaction) (block : Block) (row : Row) → IsAt p s.transactions n t block row → IsPresent s.lists n → Contains (edges p (own_table p) t.next block row) (move to row) → MayBeEntered p to → Paid p (weighs_there p to (parameters_of n s) + d) (weight_in p (at None s.transactions n) + c) → Change p en ar c s en ar d (turned n t to s)
+  Turns : {en ar c d : ℕ} {s : State} (n to : ℕ) (t : Transaction) (block : Block) (row : Row) → IsAt p s.transactions n t block row → IsPresent s.lists n → Contains (edges p (own_table p) t.next block row) (move to row) → MayBeEntered p to → Paid p (weighs_there p to (parameters_of n s) + d) (weight_in p (at None s.transactions n) + c) → Change p en ar c s en ar d (turn_to n t to s)
   -- a parameter of a transaction is set, and it enters its block and goes along one of its edges, where the parameter is known to be what it is set to
   GoesWith : {en ar c d : ℕ} {s : State} (n to q : ℕ) (value : ℤ) (t : Transaction) (block : Block) (row state : Row) → IsAt p s.transactions n t block row → IsPresent s.lists n → AreAsKnown (Some state) (put None (parameters_of n s) q (Some value))
-      → Contains (edges p (own_table p) t.next block row) (move to state) → MayBeEntered p to → Balanced p n (Some row) (Some state) s.entities s.entities → Paid p (1 + weighs_there p to (put None (parameters_of n s) q (Some value)) + d) (weight_in p (at None s.transactions n) + c) → Change p en ar c s (suc en) ar d (entered n t to (assigned n q value s))
+      → Contains (edges p (own_table p) t.next block row) (move to state) → MayBeEntered p to → Balanced p n (Some row) (Some state) s.entities s.entities → Paid p (1 + weighs_there p to (put None (parameters_of n s) q (Some value)) + d) (weight_in p (at None s.transactions n) + c) → Change p en ar c s (suc en) ar d (enter_next n t to (assign_to n q value s))
   -- a transaction is scheduled to arrive at a GENERATE
   Arrives : {en ar c : ℕ} {s : State} (b : ℕ) (g : Generate) (row : Row) (priority time : ℤ) → block_at p.blocks b ≡ Some (blocks.Generate g) → own_row p b ≡ Some row → is_empty row ≡ true → s.clock ≤ℤ time → (takes_time g.interval.mean g.interval.half ≡ true → s.clock <ℤ time) → is_owed g.limit (at 0 s.scheduled b) ≡ true → nat_le (live_count s.transactions + 1) 65536 ≡ true → Change p en ar c s en (suc ar) c (arrives b priority time s)
   -- a copy of a transaction is made, and goes along an edge of a block
   Copied : {en ar c d : ℕ} {s : State} (n target b : ℕ) (t u : Transaction) (block : Block) (row state : Row) → attributes_at n s.transactions ≡ Some u → t.mark ≡ u.mark → AreAsKnown (Some state) (parameters_of n s) → block_at p.blocks b ≡ Some block → own_row p b ≡ Some row
-      → Contains (edges p (own_table p) b block row) (move target state) → MayBeEntered p target → state.facilities ≡ [] → state.units ≡ [] → live_count s.transactions + 1 ≤ 65536 → Paid p (weighs_there p target (parameters_of n s) + d) c → Change p en ar c s en (suc ar) d (copied n t target s)
+      → Contains (edges p (own_table p) b block row) (move target state) → MayBeEntered p target → state.facilities ≡ [] → state.units ≡ [] → live_count s.transactions + 1 ≤ 65536 → Paid p (weighs_there p target (parameters_of n s) + d) c → Change p en ar c s en (suc ar) d (copy_to n t target s)
   -- the active transaction is placed
   Rests : {en ar c d : ℕ} {s : State} (n : ℕ) (placement : Placement) → Rested p n placement s → Settles p n placement s c d → Change p en ar c s (credited placement en) ar d (placed_at n placement s)
   -- a waiter is called
   Called : {en ar c : ℕ} {s : State} (e n : ℕ) → 1 ≤ occurrences n (delay_list e s) → e < length p.entities → Change p (suc en) ar c s en ar c (called_from e n s)
   -- the last of its set has come to an assembly
-  Assembled : {en ar c : ℕ} {s : State} (a : Assembly) → find (is_of a.block a.set) s.lists.assemblies ≡ Some a → Change p en ar c s en ar c (assembled a s)
+  Assembled : {en ar c : ℕ} {s : State} (a : Assembly) → find (is_of a.block a.set) s.lists.assemblies ≡ Some a → Change p en ar c s en ar c (assemble_all a s)
   -- another has come to an assembly, and more are to come
   Comes : {en ar c : ℕ} {s : State} (a : Assembly) → find (is_of a.block a.set) s.lists.assemblies ≡ Some a → 2 ≤ a.missing → Change p en ar c s en ar c (come_to a s)
   -- the first member of a user chain leaves it for a block, whose row the row of the chain fits
   Unlinked : {en ar d : ℕ} {s : State} (c target n : ℕ) (t : Transaction) (ns : List ℕ) (members row : Row) → user_chain c s ≡ n ∷ ns → attributes_at n s.transactions ≡ Some t → own_table p (targets.Chain c) ≡ Some members → own_row p target ≡ Some row → Fits members row
       → MayBeEntered p target → c < length p.entities → Paid p (weighs_there p target (parameters_of n s)) (chain_weight p c) → Change p en ar d s en ar d (leaves_chain c target n t s)
   -- the retry list is woken
-  Woken : {en ar c : ℕ} {s : State} → Change p en ar c s en ar c (woken s)
+  Woken : {en ar c : ℕ} {s : State} → Change p en ar c s en ar c (wake s)
   -- the first of the current events chain becomes active
   Activates : {en ar c : ℕ} {s : State} (n : ℕ) (ns : List ℕ) → s.lists.active ≡ None → s.lists.current_events ≡ n ∷ ns → Change p en ar c s en ar c (record s { lists = record s.lists { active = Some n; current_events = ns } })
   -- the clock moves to the first future event
@@ -192,7 +192,7 @@ pub data Change (p : Parts) : ℕ → ℕ → ℕ → State → ℕ → ℕ → 
   -- draws
   Draws : {en ar c : ℕ} {s : State} (streams : List ℕ) → KeepStreams s.streams streams → Change p en ar c s en ar c (with_streams streams s)
   -- the termination count falls
-  Counts : {en ar c : ℕ} {s : State} (by : ℤ) → Change p en ar c s en ar c (counted by s)
+  Counts : {en ar c : ℕ} {s : State} (by : ℤ) → Change p en ar c s en ar c (count_down by s)
   -- a step is counted, and an end may stand
   Marks : {en ar c : ℕ} {s : State} (steps : ℕ) (ended : Option End) → Change p en ar c s en ar c (record s { steps = steps; ended = ended })
 
@@ -208,12 +208,12 @@ trace_on p (Then x xs) ys = Then x (trace_on p xs ys)
 -- PLACED
 
 -- the transaction rests, where something stirred once the retry list was woken
-stirs_rests : (b : Bool) (p : Parts) (en ar c d n : ℕ) (placement : Placement) (s : State) → Rested p n placement s → Settles p n placement s c d → Settles p n placement (woken s) c d → Trace p en ar c s (credited placement en) ar d (placed_at n placement (if b then woken s else s))
+stirs_rests : (b : Bool) (p : Parts) (en ar c d n : ℕ) (placement : Placement) (s : State) → Rested p n placement s → Settles p n placement s c d → Settles p n placement (wake s) c d → Trace p en ar c s (credited placement en) ar d (placed_at n placement (if b then wake s else s))
 stirs_rests true p en ar c d n placement s may settles later = Then Woken (Then (Rests n placement may later) Done)
 stirs_rests false p en ar c d n placement s may settles later = Then (Rests n placement may settles) Done
 
 -- the one lemma on placements, for each block and each refusal
-pub placed_traced : (p : Parts) (en ar c d n : ℕ) (placement : Placement) (s : State) → Rested p n placement s → Settles p n placement s c d → Trace p en ar c s (credited placement en) ar d (placed n placement s)
+pub placed_traced : (p : Parts) (en ar c d n : ℕ) (placement : Placement) (s : State) → Rested p n placement s → Settles p n placement s c d → Trace p en ar c s (credited placement en) ar d (place_by n placement s)
 placed_traced p en ar c d n StaysActive s may settles = subst (λ e. Trace p en ar c s en ar e s) settles Done
 placed_traced p en ar c d n (RestsUntil time) s may settles = stirs_rests s.stir p en ar c d n (RestsUntil time) s may settles settles
 placed_traced p en ar c d n (JoinsDelayList e) s may settles = stirs_rests s.stir p en ar c d n (JoinsDelayList e) s may settles settles
@@ -357,7 +357,7 @@ storages-later time xs e = at-map_same (storages.storage_after time) (storages.v
 module _ (p : Parts) (flow : FlowHolds p (own_table p)) where
   -- a transaction enters its block, and is at another place from then on
   enters : (s : State) → WellTyped p s → (n to : ℕ) (t u : Transaction) (block : Block) (row next : Row) (h : EntityStates) → IsAt p s.transactions n t block row → IsPresent s.lists n → AreAsKnown (Some next) (parameters_of n s)
-      → IsSome (block_at p.blocks to) → own_row p to ≡ Some next → Balanced p n (Some row) (Some next) s.entities h → WellTyped p (record (entered n u to s) { entities = h })
+      → IsSome (block_at p.blocks to) → own_row p to ≡ Some next → Balanced p n (Some row) (Some next) s.entities h → WellTyped p (record (enter_next n u to s) { entities = h })
   enters s ty n to t u block row next h is here known there lands balance =
       let v : Transaction = record u { current = u.next; next = to } in
       let bears = bearer_at s.transactions n t is.found in
@@ -373,18 +373,18 @@ module _ (p : Parts) (flow : FlowHolds p (own_table p)) where
       (subst (λ r. Balanced p n (Some row) r s.entities h) (sym (ap (row_of p) now ∙ its)) balance))
 
   goes : (s : State) → WellTyped p s → (n to : ℕ) (t u : Transaction) (block : Block) (row state : Row) (h : EntityStates) → IsAt p s.transactions n t block row → IsPresent s.lists n → AreAsKnown (Some state) (parameters_of n s)
-      → Contains (edges p (own_table p) t.next block row) (move to state) → MayBeEntered p to → Balanced p n (Some row) (Some state) s.entities h → WellTyped p (record (entered n u to s) { entities = h })
+      → Contains (edges p (own_table p) t.next block row) (move to state) → MayBeEntered p to → Balanced p n (Some row) (Some state) s.entities h → WellTyped p (record (enter_next n u to s) { entities = h })
   goes s ty n to t u block row state h is here known along may balance =
       let lead = leads p t.next to block row state (flow.each_row t.next block row is.block_is is.row_is) along in
       enters s ty n to t u block row lead.row h is here (known_on state lead.row (parameters_of n s) lead.fits known) (there (block_at p.blocks to) may) lead.is (balanced-fits p n (Some row) state lead.row s.entities h balance lead.fits)
 
   -- a transaction that turns to a block enters nothing, and is at that block's row
-  pub turns : (s : State) → WellTyped p s → (n to : ℕ) (t : Transaction) (block : Block) (row : Row) → IsAt p s.transactions n t block row → IsPresent s.lists n → Contains (edges p (own_table p) t.next block row) (move to row) → MayBeEntered p to → WellTyped p (turned n t to s)
+  pub turns : (s : State) → WellTyped p s → (n to : ℕ) (t : Transaction) (block : Block) (row : Row) → IsAt p s.transactions n t block row → IsPresent s.lists n → Contains (edges p (own_table p) t.next block row) (move to row) → MayBeEntered p to → WellTyped p (turn_to n t to s)
   turns s ty n to t block row is here along may = goes s ty n to t (record t { next = t.current }) block row row s.entities is here (its_parameters p s ty n t block row is) along may (balanced-nothing p n row s.entities)
 
   -- a parameter of it is set besides
   goes_with : (s : State) → WellTyped p s → (n to q : ℕ) (value : ℤ) (t : Transaction) (block : Block) (row state : Row) → IsAt p s.transactions n t block row → IsPresent s.lists n → AreAsKnown (Some state) (put None (parameters_of n s) q (Some value))
-      → Contains (edges p (own_table p) t.next block row) (move to state) → MayBeEntered p to → Balanced p n (Some row) (Some state) s.entities s.entities → WellTyped p (entered n t to (assigned n q value s))
+      → Contains (edges p (own_table p) t.next block row) (move to state) → MayBeEntered p to → Balanced p n (Some row) (Some state) s.entities s.entities → WellTyped p (enter_next n t to (assign_to n q value s))
   goes_with s ty n to q value t block row state is here known along may balance =
       let ts = s.transactions in
       let lead = leads p t.next to block row state (flow.each_row t.next block row is.block_is is.row_is) along in
@@ -399,18 +399,18 @@ module _ (p : Parts) (flow : FlowHolds p (own_table p)) where
       subst (λ xs. Agree p xs s.lists s.entities) (sym same)
       (agree-written p ts s.lists s.entities ty s.lists s.entities n (Some later)
       (nowhere p ts s.lists s.entities ty n here)
-      (subst (λ xs. EachResidesOnce xs s.lists) same (resides-entered n t to (assigned n q value s) (resides-assigned n q value s ty.resides))) refl refl
+      (subst (λ xs. EachResidesOnce xs s.lists) same (resides-entered n t to (assign_to n q value s) (resides-assigned n q value s ty.resides))) refl refl
       (linked-written p ts s.lists s.entities ty s.lists n (Some later) refl (its_chain (at None ts n) bears.0 None bears.1 is.free ∙ sym is.free))
       (record { there = subst (IsThere p) (sym goes_to) (there (block_at p.blocks to) may); row = ap is_some its; parameters = subst (λ r. AreAsKnown r later.parameters) (sym its) (known_on state lead.row later.parameters lead.fits set) })
       (subst (λ r. Balanced p n r (own_table p (place later)) s.entities s.entities) (sym (its_row p ts n t block row is))
       (subst (λ r. Balanced p n (Some row) r s.entities s.entities) (sym its) (balanced-fits p n (Some row) state lead.row s.entities s.entities balance lead.fits))))
 
-  leaves : (s : State) → WellTyped p s → (n : ℕ) → s.lists.active ≡ Some n → OwnsNothing p n s.transactions → WellTyped p (destroyed n s)
+  leaves : (s : State) → WellTyped p s → (n : ℕ) → s.lists.active ≡ Some n → OwnsNothing p n s.transactions → WellTyped p (destroy n s)
   leaves s ty n active is =
-      agree-written p s.transactions s.lists s.entities ty (destroyed n s).lists s.entities n None
+      agree-written p s.transactions s.lists s.entities ty (destroy n s).lists s.entities n None
       (nowhere p s.transactions s.lists s.entities ty n (present s.lists n active))
       (resides-destroyed n is.t s active is.found ty.resides) refl refl
-      (linked-written p s.transactions s.lists s.entities ty (destroyed n s).lists n None refl (sym (present_free p s.transactions s.lists s.entities ty n (present s.lists n active)))) tt
+      (linked-written p s.transactions s.lists s.entities ty (destroy n s).lists n None refl (sym (present_free p s.transactions s.lists s.entities ty n (present s.lists n active)))) tt
       (subst (λ r. Balanced p n r None s.entities s.entities) (sym (ap (row_of p) is.found ∙ is.row_is)) (balanced-end p n is.row s.entities (lists-none is.row.facilities is.none)))
 
   pub arrived : (s : State) → WellTyped p s → (b : ℕ) (g : Generate) (row : Row) (priority time : ℤ) → block_at p.blocks b ≡ Some (blocks.Generate g) → own_row p b ≡ Some row → is_empty row ≡ true → WellTyped p (arrives b priority time s)
@@ -427,15 +427,15 @@ module _ (p : Parts) (flow : FlowHolds p (own_table p)) where
 
   -- a copy goes along an edge, and has nothing but parameters
   copy_made : (s : State) → WellTyped p s → (n target b : ℕ) (t : Transaction) (block : Block) (row state : Row) → AreAsKnown (Some state) (parameters_of n s) → block_at p.blocks b ≡ Some block → own_row p b ≡ Some row
-      → Contains (edges p (own_table p) b block row) (move target state) → MayBeEntered p target → state.facilities ≡ [] → state.units ≡ [] → WellTyped p (copied n t target s)
+      → Contains (edges p (own_table p) b block row) (move target state) → MayBeEntered p target → state.facilities ≡ [] → state.units ≡ [] → WellTyped p (copy_to n t target s)
   copy_made s ty n target b t block row state known block_is row_is along may facilities units =
       let m = length s.transactions in
       let v : LiveTransaction = made_with (parameters_of n s) (record t { next = target }) in
       let lead = leads p b target block row state (flow.each_row b block row block_is row_is) along in
-      agree-written p s.transactions s.lists s.entities ty (copied n t target s).lists s.entities m (Some v)
+      agree-written p s.transactions s.lists s.entities ty (copy_to n t target s).lists s.entities m (Some v)
       (fresh p s.transactions s.lists s.entities ty)
       (resides-copied n t target s ty.resides) refl refl
-      (linked-written p s.transactions s.lists s.entities ty (copied n t target s).lists m (Some v) refl (sym (ap chain_of (at_past None s.transactions m (omega arith)))))
+      (linked-written p s.transactions s.lists s.entities ty (copy_to n t target s).lists m (Some v) refl (sym (ap chain_of (at_past None s.transactions m (omega arith)))))
       (record { there = there (block_at p.blocks target) may; row = ap is_some lead.is; parameters = subst (λ r. AreAsKnown r (parameters_of n s)) (sym lead.is) (known_on state lead.row (parameters_of n s) lead.fits known) })
       (subst (λ o. Balanced p m (row_of p o) (own_row p target) s.entities s.entities) (sym (at_past None s.transactions m (omega arith)))
       (subst (λ r. Balanced p m None r s.entities s.entities) (sym lead.is) (balanced-copy p m state lead.row s.entities facilities units lead.fits)))
@@ -600,10 +600,10 @@ module _ (p : Parts) (flow : FlowHolds p (own_table p)) where
   change-keeps (Rests {s = s} n placement may settles) ty = rests s ty n placement may
   change-keeps (Called {s = s} e n here below) ty = called s ty e n here
   change-keeps (Copied {s = s} n target b t u block row state found mark known block_is row_is along may facilities units few pays) ty = copy_made s ty n target b t block row state known block_is row_is along may facilities units
-  change-keeps (Assembled {s = s} a is) ty = agree-apart p s.transactions s.lists s.entities ty (assembled a s).lists (resides-assembled a s is ty.resides) refl refl (missing-without (is_of a.block a.set) s.lists.assemblies ty.assembling)
+  change-keeps (Assembled {s = s} a is) ty = agree-apart p s.transactions s.lists s.entities ty (assemble_all a s).lists (resides-assembled a s is ty.resides) refl refl (missing-without (is_of a.block a.set) s.lists.assemblies ty.assembling)
   change-keeps (Comes {s = s} a is more) ty = agree-apart p s.transactions s.lists s.entities ty (come_to a s).lists (resides-come a s ty.resides) refl refl (missing-changed (is_of a.block a.set) s.lists.assemblies a is more ty.assembling)
   change-keeps (Unlinked {s = s} c target n t ns members row is found members_is row_is fits may below pays) ty = unlinks s ty c target n t ns members row is found members_is row_is fits may
-  change-keeps (Woken {s = s}) ty = agree-apart p s.transactions s.lists s.entities ty (woken s).lists (resides-woken s ty.resides) refl refl ty.assembling
+  change-keeps (Woken {s = s}) ty = agree-apart p s.transactions s.lists s.entities ty (wake s).lists (resides-woken s ty.resides) refl refl ty.assembling
   change-keeps (Activates {s = s} n ns nobody first) ty =
       agree-apart p s.transactions s.lists s.entities ty (record s.lists { active = Some n; current_events = ns }) (resides-active n ns s nobody first ty.resides) refl refl ty.assembling
   change-keeps (ClockMoves {s = s} e es is) ty = moved_on s ty e.time

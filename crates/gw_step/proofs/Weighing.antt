@@ -25,17 +25,17 @@ use Rattle.gw_transactions.specs.declared.Transaction.{Transaction}
 use Rattle.gw_transactions.specs.Transactions.{LiveTransaction, made_with, with_attributes, with_parameter, with_chain, attributes_at, put_attributes, put_parameter}
 use Rattle.gw_step.specs.declared.placement.Placement.{Placement}
 use Rattle.gw_step.specs.declared.placement.Placement.TheVariants.{StaysActive, RestsUntil, JoinsDelayList, JoinsRetryList, RestsAhead, RestsBehind, AwaitsSet, JoinsChain, LeavesModel}
-use Rattle.gw_step.specs.State.{FutureEvent, EntityStates, State, user_chain, raised}
-use Rattle.gw_step.specs.Changes.{numbers, newcomer, entered, assigned, arrives, copied, rests_until, joins_chain, leaves_chain, destroyed, clock_moves}
+use Rattle.gw_step.specs.State.{FutureEvent, EntityStates, State, user_chain, with_one_more_at}
+use Rattle.gw_step.specs.Changes.{numbers, newcomer, enter_next, assign_to, arrives, copy_to, rests_until, joins_chain, leaves_chain, destroy, clock_moves}
 use Rattle.gw_step.specs.Blocks.{is_owed}
 use Rattle.gw_step.specs.Times.{parameters_of}
 use Rattle.gw_step.specs.Placing.{placed_at}
 use Rattle.gw_step.specs.Residence.{occurrences}
 use Rattle.gw_step.specs.Numbers.{IsFrom, IsWithin}
 use Rattle.gw_step.specs.Typing.{WellTyped}
-use Rattle.gw_step.specs.Turning.{towards, turned, two_next}
+use Rattle.gw_step.specs.Turning.{towards, turn_to, two_next}
 use Rattle.gw_transactions.specs.Parameters.{no_parameters}
-use Rattle.gw_step.specs.Weight.{added, weighs_there, is_later, weight_by, weight_in, weighs, still_owed, owed_by, owes, weight}
+use Rattle.gw_step.specs.Weight.{slope_addition, weighs_there, is_later, weight_by, weight_in, weighs, still_owed, owed_by, owes, weight}
 use Rattle.gw_step.proofs.Sums.{sum-same, sum-but_one, sum-more}
 use Rattle.gw_step.proofs.Attributes.{bearer_at, number_below, written_at, written_both}
 use Rattle.gw_step.proofs.Residence.{one_if, at_most_one, same_number, occurrences-one}
@@ -168,9 +168,9 @@ module _ (p : Parts) where
 
   -- the transaction n is written, and is not scheduled for later
   enters : (s : State) → WellTyped p s → (n to : ℕ) (t u : Transaction) (h : EntityStates) → attributes_at n s.transactions ≡ Some t → IsPresent s.lists n
-      → weight p (record (entered n u to s) { entities = h }) + weight_in p (at None s.transactions n) ≤ weight p s + weight_in p (at None (entered n u to s).transactions n)
+      → weight p (record (enter_next n u to s) { entities = h }) + weight_in p (at None s.transactions n) ≤ weight p s + weight_in p (at None (enter_next n u to s).transactions n)
   enters s ty n to t u h found here =
-      let after : State = record (entered n u to s) { entities = h } in
+      let after : State = record (enter_next n u to s) { entities = h } in
       let v : Option LiveTransaction = option_map (with_attributes (record u { current = u.next; next = to })) (at None s.transactions n) in
       let below = number_below s.transactions n t found in
       let changes = weight_changes s after n below (length-put None s.transactions n v below) refl (λ i other. others_weigh s n v i other) in
@@ -178,9 +178,9 @@ module _ (p : Parts) where
 
   -- it turns to another block
   turns : (s : State) → WellTyped p s → (n to : ℕ) (t : Transaction) → attributes_at n s.transactions ≡ Some t → IsPresent s.lists n
-      → weight p (turned n t to s) + weight_in p (at None s.transactions n) ≤ weight p s + weight_in p (at None (turned n t to s).transactions n)
+      → weight p (turn_to n t to s) + weight_in p (at None s.transactions n) ≤ weight p s + weight_in p (at None (turn_to n t to s).transactions n)
   turns s ty n to t found here =
-      let after : State = turned n t to s in
+      let after : State = turn_to n t to s in
       let v : Option LiveTransaction = option_map (with_attributes (towards to t)) (at None s.transactions n) in
       let below = number_below s.transactions n t found in
       let changes = weight_changes s after n below (length-put None s.transactions n v below) refl (λ i other. others_weigh s n v i other) in
@@ -188,16 +188,16 @@ module _ (p : Parts) where
 
   -- a parameter of it is set besides
   enters_with : (s : State) → WellTyped p s → (n to q : ℕ) (value : ℤ) (t : Transaction) → attributes_at n s.transactions ≡ Some t → IsPresent s.lists n
-      → weight p (entered n t to (assigned n q value s)) + weight_in p (at None s.transactions n) ≤ weight p s + weight_in p (at None (entered n t to (assigned n q value s)).transactions n)
+      → weight p (enter_next n t to (assign_to n q value s)) + weight_in p (at None s.transactions n) ≤ weight p s + weight_in p (at None (enter_next n t to (assign_to n q value s)).transactions n)
   enters_with s ty n to q value t found here =
       let ts = s.transactions in
-      let after : State = entered n t to (assigned n q value s) in
+      let after : State = enter_next n t to (assign_to n q value s) in
       let below = number_below ts n t found in
       let set : Option LiveTransaction = option_map (with_parameter q value) (at None ts n) in
       let length_set : length (put_parameter n q value ts) ≡ length ts = length-put None ts n set below in
       let v : Option LiveTransaction = option_map (with_attributes (record t { current = t.next; next = to })) (at None (put_parameter n q value ts) n) in
       let lengths : length after.transactions ≡ length ts = length-put None (put_parameter n q value ts) n v (omega (arith, below, length_set)) ∙ length_set in
-      let changes = weight_changes s after n below lengths refl (λ i other. others_weigh (assigned n q value s) n v i other ∙ others_weigh s n set i other) in
+      let changes = weight_changes s after n below lengths refl (λ i other. others_weigh (assign_to n q value s) n v i other ∙ others_weigh s n set i other) in
       omega (arith, changes, weighs_all p s n (present_now p s ty n here), weighs_at_most p after n)
 
   -- WHERE ONE COMES TO
@@ -207,7 +207,7 @@ module _ (p : Parts) where
   its_own s n u there = ap (λ o. option_map_or (λ (x : LiveTransaction). x.parameters) o no_parameters) there
 
   -- a slope adds nothing where no parameter is set
-  nothing_added : (slope : Option (ℕ × ℕ)) → added slope no_parameters ≡ 0
+  nothing_added : (slope : Option (ℕ × ℕ)) → slope_addition slope no_parameters ≡ 0
   nothing_added None = refl
   nothing_added (Some slope) = ap (λ (v : Option ℤ). slope.1 * option_map_or above v 0) (at-replicate None 65 slope.0) ∙ omega arith
 
@@ -230,7 +230,7 @@ module _ (p : Parts) where
     owed_other i other = ap (λ k. owed_by (block_at p.blocks i) k * weight_at p.weights i) (at-put_other 0 s.scheduled b i (at 0 s.scheduled b + 1) other)
 
     owed_now : (g : Generate) → block_at p.blocks b ≡ Some (blocks.Generate g) → owes p (arrives b priority time s) b ≡ still_owed g (at 0 s.scheduled b + 1) * weight_at p.weights b
-    owed_now g is = ap (λ o. owed_by o (at 0 (raised b s.scheduled) b) * weight_at p.weights b) is ∙ ap (λ k. still_owed g k * weight_at p.weights b) (at-put 0 s.scheduled b (at 0 s.scheduled b + 1))
+    owed_now g is = ap (λ o. owed_by o (at 0 (with_one_more_at b s.scheduled) b) * weight_at p.weights b) is ∙ ap (λ k. still_owed g k * weight_at p.weights b) (at-put 0 s.scheduled b (at 0 s.scheduled b + 1))
 
     owed_before : (g : Generate) → block_at p.blocks b ≡ Some (blocks.Generate g) → owes p s b ≡ still_owed g (at 0 s.scheduled b) * weight_at p.weights b
     owed_before g is = ap (λ o. owed_by o (at 0 s.scheduled b) * weight_at p.weights b) is
@@ -281,11 +281,11 @@ module _ (p : Parts) where
             let now = owed_now s b priority time g is ∙ ap (λ (x : Bool). (if x then 0 else option_map_or (λ most. most - (at 0 s.scheduled b + 1)) g.limit 0) * weight_at p.weights b) may in
             omega (arith, grown, owing, weighs_new, before, now, paid_by_owed g.limit (at 0 s.scheduled b) (weight_at p.weights b) limit owed)
 
-  copy_comes : Weighted p → (s : State) (n : ℕ) (t : Transaction) (target : ℕ) (row : Row) → MayBeEntered p target → own_row p target ≡ Some row → weight p (copied n t target s) ≤ weight p s + weighs_there p target (parameters_of n s)
+  copy_comes : Weighted p → (s : State) (n : ℕ) (t : Transaction) (target : ℕ) (row : Row) → MayBeEntered p target → own_row p target ≡ Some row → weight p (copy_to n t target s) ≤ weight p s + weighs_there p target (parameters_of n s)
   copy_comes weighted s n t target row may row_is =
       let m = length s.transactions in
       let v : LiveTransaction = made_with (parameters_of n s) (record t { next = target }) in
-      let after : State = copied n t target s in
+      let after : State = copy_to n t target s in
       let block = the_block (block_at p.blocks target) may in
       let grown = weight_grows s after (length-put_next None s.transactions (Some v)) (λ i lower. let other : i ≢ m = λ same. omega (arith, lower, same) in others_weigh s m (Some v) i other) in
       omega (arith, grown, owed_same s after refl, weighs_at_most p after m, ap (weight_in p) (at-put None s.transactions m (Some v)), weighs_within p weighted v block.0 row refl block.1 row_is)
@@ -330,9 +330,9 @@ module _ (p : Parts) where
       linked_at_most c (Some u) = omega arith
 
   -- who leaves weighs nothing from then on
-  left_model : (s : State) → WellTyped p s → (n : ℕ) → s.lists.active ≡ Some n → weight p (destroyed n s) + weight_in p (at None s.transactions n) ≤ weight p s
+  left_model : (s : State) → WellTyped p s → (n : ℕ) → s.lists.active ≡ Some n → weight p (destroy n s) + weight_in p (at None s.transactions n) ≤ weight p s
   left_model s ty n active =
-      let t : State = destroyed n s in
+      let t : State = destroy n s in
       let below = live_below s ty n active in
       let changes = weight_changes s t n below (length-put None s.transactions n None below) refl (λ i other. others_weigh s n None i other) in
       omega (arith, changes, weighs_all p s n (present_now p s ty n (present s.lists n active)), weighs_at_most p t n, ap (weight_in p) (at-put None s.transactions n None))

@@ -1,5 +1,5 @@
 -- What each elementary change does to the numbers of a state.
-use Rattle.gw_step.specs.Turning.{towards, turned}
+use Rattle.gw_step.specs.Turning.{towards, turn_to}
 use Rattle.gw_step.specs.declared.ends.End.{End}
 use Rattle.std.proofs.Common.{◌≡◌, ℕ, suc, ◌+◌, ◌^◌, ◌≤◌, ◌<◌, ℤ, pos, ◌≤ℤ◌, List, [], ◌∷◌, ◌++◌, length, Some, None, Bool, true, false, if◌then◌else◌, ◌==◌, refl, ap, ◌∙◌, arith, inl, inr, Option, sym, subst, option_map}
 use Rattle.std.proofs.lemmas.Int.{ints}
@@ -18,18 +18,18 @@ use Rattle.gw_entities.specs.Storage.{vacant}
 use Rattle.gw_entities.specs.Table.{no_table}
 use Rattle.gw_step.specs.declared.placement.Assembling.{Assembling}
 use Rattle.gw_step.specs.Times.{parameters_of}
-use Rattle.gw_step.specs.State.{Assembly, FutureEvent, EntityStates, State, priority_of, raised, with_streams, delay_list, without}
-use Rattle.gw_step.specs.Changes.{newcomer, copied, rests_ahead, rests_behind, awaits_set, assembled, come_to, joins_chain, leaves_chain, retries, woken, entered, assigned, destroyed, arrives, rests_until, waits_for, called_from, counted}
+use Rattle.gw_step.specs.State.{Assembly, FutureEvent, EntityStates, State, priority_of, with_one_more_at, with_streams, delay_list, without}
+use Rattle.gw_step.specs.Changes.{newcomer, copy_to, rests_ahead, rests_behind, awaits_set, assemble_all, come_to, joins_chain, leaves_chain, retries, wake, enter_next, assign_to, destroy, arrives, rests_until, waits_for, called_from, count_down}
 use Rattle.gw_step.specs.Residence.{occurrences}
 use Rattle.gw_step.proofs.Residence.{one_if}
-use Rattle.gw_step.specs.Numbers.{IsFrom, waiting, AreWhole, IsWithin, AreEntered, AreMarked}
+use Rattle.gw_step.specs.Numbers.{IsFrom, waiter_count, AreWhole, IsWithin, AreEntered, AreMarked}
 
 -- LENGTHS AND SUMS
 
-pub sum-raised : (b : ℕ) (counts : List ℕ) → sum (raised b counts) ≡ sum counts + 1
+pub sum-raised : (b : ℕ) (counts : List ℕ) → sum (with_one_more_at b counts) ≡ sum counts + 1
 sum-raised b counts = let e = sum_by-put 0 (λ (x : ℕ). x) counts b (at 0 counts b + 1) refl in omega (arith, e)
 
-pub length-raised : (b : ℕ) (counts : List ℕ) → b < length counts → length (raised b counts) ≡ length counts
+pub length-raised : (b : ℕ) (counts : List ℕ) → b < length counts → length (with_one_more_at b counts) ≡ length counts
 length-raised b counts below = length-put 0 counts b (at 0 counts b + 1) below
 
 length-placed : {A : Type 0} (enters_and_falls : A → Bool) (x : A) (xs : List A) → length (placed_behind enters_and_falls x xs) ≡ suc (length xs)
@@ -153,7 +153,7 @@ marked-chained ts n chain m = marked-put ts n (option_map (with_chain chain) (at
 module _ (bs es en ar : ℕ) (s : State) (w : IsWithin bs es en ar s) where
   -- the blocks and the entities have the entries that they had
   pub within-by : (t : State) (entered arrived : ℕ) → t.entries ≡ s.entries → t.entities ≡ s.entities → length t.lists.delay_lists ≡ length s.lists.delay_lists → length t.lists.user_chains ≡ length s.lists.user_chains → length t.scheduled ≡ length s.scheduled → length t.streams ≡ 16
-      → sum s.entries + waiting t ≤ entered → length t.transactions ≤ arrived + 4097 → sum t.scheduled ≤ arrived + 4096 → AreMarked t.transactions → pos 0 ≤ℤ t.clock → IsFrom t.clock t.lists.future_events → IsWithin bs es entered arrived t
+      → sum s.entries + waiter_count t ≤ entered → length t.transactions ≤ arrived + 4097 → sum t.scheduled ≤ arrived + 4096 → AreMarked t.transactions → pos 0 ≤ℤ t.clock → IsFrom t.clock t.lists.future_events → IsWithin bs es entered arrived t
   within-by t entered arrived entries entities delayed chains length_scheduled streams few made scheduled marked clock future = record {
     entries = omega (arith, few, ap sum entries);
     entity_entries = subst (λ (g : EntityStates). AreEntered (sum t.entries) g) (sym entities) (subst (λ (xs : List ℕ). AreEntered (sum xs) s.entities) (sym entries) w.entity_entries);
@@ -173,13 +173,13 @@ module _ (bs es en ar : ℕ) (s : State) (w : IsWithin bs es en ar s) where
   }
 
   -- the numbers stay as they were, or fewer wait
-  within-apart : (t : State) → t.entries ≡ s.entries → t.scheduled ≡ s.scheduled → t.transactions ≡ s.transactions → t.entities ≡ s.entities → length t.lists.delay_lists ≡ length s.lists.delay_lists → length t.lists.user_chains ≡ length s.lists.user_chains → waiting t ≤ waiting s
+  within-apart : (t : State) → t.entries ≡ s.entries → t.scheduled ≡ s.scheduled → t.transactions ≡ s.transactions → t.entities ≡ s.entities → length t.lists.delay_lists ≡ length s.lists.delay_lists → length t.lists.user_chains ≡ length s.lists.user_chains → waiter_count t ≤ waiter_count s
       → length t.streams ≡ 16 → t.clock ≡ s.clock → t.lists.future_events ≡ s.lists.future_events → IsWithin bs es en ar t
   within-apart t entries scheduled ts entities lists chains wait streams clock future =
       within-by t en ar entries entities lists chains (ap length scheduled) streams (omega (arith, w.entries, wait)) (omega (arith, w.made, ap (λ (xs : List (Option LiveTransaction)). length xs) ts)) (omega (arith, w.scheduled, ap sum scheduled)) (rw ts w.marked) (rw clock w.clock) (rw (clock, future) w.future)
 
-  pub within-woken : IsWithin bs es en ar (woken s)
-  within-woken = within-apart (woken s) refl refl refl refl refl refl (omega arith) w.whole.streams refl refl
+  pub within-woken : IsWithin bs es en ar (wake s)
+  within-woken = within-apart (wake s) refl refl refl refl refl refl (omega arith) w.whole.streams refl refl
 
   pub within-streams : (streams : List ℕ) → length streams ≡ 16 → IsWithin bs es en ar (with_streams streams s)
   within-streams streams same = within-apart (with_streams streams s) refl refl refl refl refl refl (omega arith) same refl refl
@@ -190,8 +190,8 @@ module _ (bs es en ar : ℕ) (s : State) (w : IsWithin bs es en ar s) where
   pub within-ended : (steps : ℕ) (ended : Option End) → IsWithin bs es en ar (record s { steps = steps; ended = ended })
   within-ended steps ended = within-apart (record s { steps = steps; ended = ended }) refl refl refl refl refl refl (omega arith) w.whole.streams refl refl
 
-  pub within-counted : (by : ℤ) → IsWithin bs es en ar (counted by s)
-  within-counted by = within-apart (counted by s) refl refl refl refl refl refl (omega arith) w.whole.streams refl refl
+  pub within-counted : (by : ℤ) → IsWithin bs es en ar (count_down by s)
+  within-counted by = within-apart (count_down by s) refl refl refl refl refl refl (omega arith) w.whole.streams refl refl
 
   pub within-ahead : (n : ℕ) → IsWithin bs es en ar (rests_ahead n s)
   within-ahead n = within-apart (rests_ahead n s) refl refl refl refl refl refl (omega arith) w.whole.streams refl refl
@@ -202,20 +202,20 @@ module _ (bs es en ar : ℕ) (s : State) (w : IsWithin bs es en ar s) where
   pub within-awaits : (n : ℕ) (a : Assembling) → IsWithin bs es en ar (awaits_set n a s)
   within-awaits n a = within-apart (awaits_set n a s) refl refl refl refl refl refl (omega arith) w.whole.streams refl refl
 
-  pub within-assembled : (a : Assembly) → IsWithin bs es en ar (assembled a s)
-  within-assembled a = within-apart (assembled a s) refl refl refl refl refl refl (omega arith) w.whole.streams refl refl
+  pub within-assembled : (a : Assembly) → IsWithin bs es en ar (assemble_all a s)
+  within-assembled a = within-apart (assemble_all a s) refl refl refl refl refl refl (omega arith) w.whole.streams refl refl
 
   pub within-come : (a : Assembly) → IsWithin bs es en ar (come_to a s)
   within-come a = within-apart (come_to a s) refl refl refl refl refl refl (omega arith) w.whole.streams refl refl
 
   -- a copy is made
-  pub within-copied : (n : ℕ) (t : Transaction) (target : ℕ) → pos 0 ≤ℤ t.mark → IsWithin bs es en (suc ar) (copied n t target s)
+  pub within-copied : (n : ℕ) (t : Transaction) (target : ℕ) → pos 0 ≤ℤ t.mark → IsWithin bs es en (suc ar) (copy_to n t target s)
   within-copied n t target mark =
       let v : Option LiveTransaction = Some (made_with (parameters_of n s) (record t { next = target })) in
-      within-by (copied n t target s) en (suc ar) refl refl refl refl refl w.whole.streams w.entries (omega (arith, w.made, length-put_next None s.transactions v)) (omega (arith, w.scheduled)) (marked-put s.transactions (length s.transactions) v mark w.marked) w.clock w.future
+      within-by (copy_to n t target s) en (suc ar) refl refl refl refl refl w.whole.streams w.entries (omega (arith, w.made, length-put_next None s.transactions v)) (omega (arith, w.scheduled)) (marked-put s.transactions (length s.transactions) v mark w.marked) w.clock w.future
 
   -- an entry, and what it does to an entity
-  pub within-entered : (n : ℕ) (t : Transaction) (next : ℕ) (g : EntityStates) → t.next ≤ bs → n < length s.transactions → pos 0 ≤ℤ t.mark → Raises s.entities g → IsWithin bs es (suc en) ar (record (entered n t next s) { entities = g })
+  pub within-entered : (n : ℕ) (t : Transaction) (next : ℕ) (g : EntityStates) → t.next ≤ bs → n < length s.transactions → pos 0 ≤ℤ t.mark → Raises s.entities g → IsWithin bs es (suc en) ar (record (enter_next n t next s) { entities = g })
   within-entered n t next g block there marks r =
       let table = w.whole.entries in
       let more = sum-raised t.next s.entries in
@@ -251,21 +251,21 @@ module _ (bs es en ar : ℕ) (s : State) (w : IsWithin bs es en ar s) where
         future = w.future;
       }
 
-  pub within-destroyed : (n : ℕ) → n < length s.transactions → IsWithin bs es en ar (destroyed n s)
+  pub within-destroyed : (n : ℕ) → n < length s.transactions → IsWithin bs es en ar (destroy n s)
   within-destroyed n there =
-      within-by (destroyed n s) en ar refl refl refl refl refl w.whole.streams w.entries (omega (arith, w.made, length-put None s.transactions n None there)) w.scheduled (marked-put s.transactions n None tt w.marked) w.clock w.future
+      within-by (destroy n s) en ar refl refl refl refl refl w.whole.streams w.entries (omega (arith, w.made, length-put None s.transactions n None there)) w.scheduled (marked-put s.transactions n None tt w.marked) w.clock w.future
 
   -- a transaction turns to another block
-  pub within-turned : (n to : ℕ) (t : Transaction) → n < length s.transactions → pos 0 ≤ℤ t.mark → IsWithin bs es en ar (turned n t to s)
+  pub within-turned : (n to : ℕ) (t : Transaction) → n < length s.transactions → pos 0 ≤ℤ t.mark → IsWithin bs es en ar (turn_to n t to s)
   within-turned n to t there marks =
       let made = length-put None s.transactions n (option_map (with_attributes (towards to t)) (at None s.transactions n)) there in
-      within-by (turned n t to s) en ar refl refl refl refl refl w.whole.streams w.entries (omega (arith, w.made, made)) w.scheduled (marked-written s.transactions n (towards to t) marks w.marked) w.clock w.future
+      within-by (turn_to n t to s) en ar refl refl refl refl refl w.whole.streams w.entries (omega (arith, w.made, made)) w.scheduled (marked-written s.transactions n (towards to t) marks w.marked) w.clock w.future
 
   -- a parameter is set
-  pub within-assigned : (n p : ℕ) (value : ℤ) → n < length s.transactions → IsWithin bs es en ar (assigned n p value s)
+  pub within-assigned : (n p : ℕ) (value : ℤ) → n < length s.transactions → IsWithin bs es en ar (assign_to n p value s)
   within-assigned n p value there =
       let made = length-put None s.transactions n (option_map (with_parameter p value) (at None s.transactions n)) there in
-      within-by (assigned n p value s) en ar refl refl refl refl refl w.whole.streams w.entries (omega (arith, w.made, made)) w.scheduled (marked-assigned s.transactions n p value w.marked) w.clock w.future
+      within-by (assign_to n p value s) en ar refl refl refl refl refl w.whole.streams w.entries (omega (arith, w.made, made)) w.scheduled (marked-assigned s.transactions n p value w.marked) w.clock w.future
 
   pub within-retries : (n : ℕ) → IsWithin bs es (suc en) ar (retries n s)
   within-retries n =
@@ -294,7 +294,7 @@ module _ (bs es en ar : ℕ) (s : State) (w : IsWithin bs es en ar s) where
       within-by (waits_for e n s) (suc en) ar refl refl (delay_lists-size e joined there) refl refl w.whole.streams (omega (arith, more, total, w.entries)) w.made w.scheduled w.marked w.clock w.future
 
   -- a waiter leaves its delay list: its entry is now to come
-  pub called-less : (e n : ℕ) → e < es → 1 ≤ occurrences n (delay_list e s) → sum s.entries + suc (waiting (called_from e n s)) ≤ en
+  pub called-less : (e n : ℕ) → e < es → 1 ≤ occurrences n (delay_list e s) → sum s.entries + suc (waiter_count (called_from e n s)) ≤ en
   called-less e n there waits =
       let fewer = length-without n (delay_list e s) waits in
       let total = sum_by-put [] length s.lists.delay_lists e (without n (delay_list e s)) refl in

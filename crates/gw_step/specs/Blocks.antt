@@ -29,25 +29,25 @@ use Rattle.gw_blocks.specs.declared.parts.Block.TheVariants as blocks
 use Rattle.gw_object.specs.declared.parts.Parts.{Parts}
 use Rattle.gw_rules.specs.Kinds.{block_at}
 use Rattle.gw_rules.specs.Exits.{leads_to, goes_or_falls}
-use Rattle.gw_operands.specs.Values.{answered, operands}
+use Rattle.gw_operands.specs.Values.{evaluation_of, operands}
 use Rattle.gw_num.specs.declared.arithmetic.NumFault.{NumFault}
 use Rattle.gw_num.specs.Arithmetic.{sum_of, difference_of}
 use Rattle.gw_num.specs.Table.{at}
 use Rattle.gw_transactions.specs.declared.Transaction.{Transaction}
 use Rattle.gw_transactions.specs.Transactions.{attributes_at, parameter_at, live_count}
 use Rattle.gw_entities.specs.declared.storages.Storage.{Storage}
-use Rattle.gw_entities.specs.Facility.{is_idle, seized, seizing, releasing, owns_any}
-use Rattle.gw_entities.specs.Storage.{has_room, entered as with_units_entered, entering, leaving}
-use Rattle.gw_entities.specs.Queue.{joined, departing}
-use Rattle.gw_entities.specs.Tabulation.{tabulating}
+use Rattle.gw_entities.specs.Facility.{is_idle, with_owner, seizure_by, release_by, owns_any}
+use Rattle.gw_entities.specs.Storage.{has_room, with_entries as with_units_entered, entry_of, exit_of}
+use Rattle.gw_entities.specs.Queue.{with_arrivals, departure_of}
+use Rattle.gw_entities.specs.Tabulation.{tabulation_of}
 use Rattle.gw_step.specs.declared.ends.End.TheVariants.{Number, Live}
 use Rattle.gw_step.specs.declared.placement.Placement.{Placement}
 use Rattle.gw_step.specs.declared.placement.Placement.TheVariants.{StaysActive, RestsUntil, JoinsDelayList, JoinsRetryList, RestsAhead, RestsBehind, AwaitsSet, JoinsChain, LeavesModel}
-use Rattle.gw_step.specs.Outcome.{Outcome, Gives, EndsBy, ◌>>=◌, only_if, case_of, evaluated}
+use Rattle.gw_step.specs.Outcome.{Outcome, Gives, EndsBy, ◌>>=◌, only_if, case_of, evaluation_outcome}
 use Rattle.gw_step.specs.State.{Assembly, State, may_enter, with_streams, delay_list, user_chain}
 use Rattle.gw_step.specs.Times.{environment_of, environment_of_next, moment_after, drawn_moment}
-use Rattle.gw_step.specs.Changes.{entered, enters_and_falls, arrives, copies_made, is_of, assembled, come_to, leaves_chain, called_from, assigned, facility, storage, queue, switch, savevalue, table, put_facility, put_storage, put_queue, put_switch, put_savevalue, put_table, counted}
-use Rattle.gw_step.specs.Placing.{placed}
+use Rattle.gw_step.specs.Changes.{enter_next, enters_and_falls, arrives, copies_made, is_of, assemble_all, come_to, leaves_chain, called_from, assign_to, facility, storage, queue, switch, savevalue, table, put_facility, put_storage, put_queue, put_switch, put_savevalue, put_table, count_down}
+use Rattle.gw_step.specs.Placing.{place_by}
 
 -- REFUSAL
 
@@ -92,8 +92,8 @@ is_so StorageNotEmpty e s = not (is_empty (storage e s))
 
 -- a block with these operand values refuses the transaction n: a SEIZE of a facility that another owns, an ENTER of units that are within the capacity and not free, and a TEST or a GATE that is false and names no other block
 abbrev pub refuses : ℕ → Block → List ℤ → State → Bool
-refuses n (blocks.Seize f) values s = has_to_wait (seizing n (facility f s))
-refuses n (blocks.Enter u) values s = has_to_wait (entering u.number (storage u.entity s))
+refuses n (blocks.Seize f) values s = has_to_wait (seizure_by n (facility f s))
+refuses n (blocks.Enter u) values s = has_to_wait (entry_of u.number (storage u.entity s))
 refuses n (blocks.Test test) values s = is_none test.otherwise && not (passes_test test values)
 refuses n (blocks.Gate gate) values s = is_none gate.otherwise && not (is_so gate.condition gate.entity s)
 refuses n block values s = false
@@ -157,7 +157,7 @@ advance bs n t time s = moment_after s.clock time >>= λ moment. leads bs (t.nex
 
 -- the effect of SEIZE: the transaction enters and owns the facility from now on
 abbrev pub seize : List Block → ℕ → Transaction → ℕ → State → Outcome (State × Placement)
-seize bs n t f s = leads bs (t.next + 1) (case_of (seizing n (facility f s)) >>= λ r. stays (put_facility f r.1 (enters_and_falls n t s)))
+seize bs n t f s = leads bs (t.next + 1) (case_of (seizure_by n (facility f s)) >>= λ r. stays (put_facility f r.1 (enters_and_falls n t s)))
 
 -- whether a block is a SEIZE of this facility
 abbrev pub is_seize : ℕ → Option Block → Bool
@@ -166,7 +166,7 @@ is_seize f other = false
 
 -- the waiter n, which is t, is called, and owns the facility at once in its SEIZE block. Whether a move leads on from there isn't asked
 abbrev pub takes_over : List Block → ℕ → ℕ → State → Transaction → State
-takes_over bs f n s t = if is_seize f (block_at bs t.next) then put_facility f (seized n (facility f s)) (enters_and_falls n t (called_from f n s)) else s
+takes_over bs f n s t = if is_seize f (block_at bs t.next) then put_facility f (with_owner n (facility f s)) (enters_and_falls n t (called_from f n s)) else s
 
 -- hand-over: to the first of these who wait for the facility
 abbrev pub hand_over : List Block → ℕ → List ℕ → State → State
@@ -175,18 +175,18 @@ hand_over bs f (n ∷ ns) s = option_map_or (takes_over bs f n s) (attributes_at
 
 -- the effect of RELEASE: the transaction, its owner, enters and gives the facility up, and it is handed over
 abbrev pub release : List Block → ℕ → Transaction → ℕ → State → Outcome (State × Placement)
-release bs n t f s = leads bs (t.next + 1) (case_of (releasing n (facility f s)) >>= λ r. stays (hand_over bs f (delay_list f s) (put_facility f r (enters_and_falls n t s))))
+release bs n t f s = leads bs (t.next + 1) (case_of (release_by n (facility f s)) >>= λ r. stays (hand_over bs f (delay_list f s) (put_facility f r (enters_and_falls n t s))))
 
 -- STORAGES
 
 -- the effect of ENTER: the transaction enters, and units of the storage are taken
 abbrev pub enter : List Block → ℕ → Transaction → Units → State → Outcome (State × Placement)
-enter bs n t u s = leads bs (t.next + 1) (case_of (entering u.number (storage u.entity s)) >>= λ r. stays (put_storage u.entity r.1 (enters_and_falls n t s)))
+enter bs n t u s = leads bs (t.next + 1) (case_of (entry_of u.number (storage u.entity s)) >>= λ r. stays (put_storage u.entity r.1 (enters_and_falls n t s)))
 
 -- the units of a storage that a block asks for, if it is its ENTER
-abbrev pub asked : ℕ → Option Block → Option Units
-asked e (Some (blocks.Enter u)) = if u.entity == e then Some u else None
-asked e other = None
+abbrev pub units_asked : ℕ → Option Block → Option Units
+units_asked e (Some (blocks.Enter u)) = if u.entity == e then Some u else None
+units_asked e other = None
 
 -- the waiter n, which is t, is called, and enters its ENTER block, where the units that it asks for are free. Whether a move leads on from there isn't asked
 abbrev pub enters_if_free : ℕ → Transaction → State → Units → State
@@ -196,12 +196,12 @@ enters_if_free n t s u =
     else s
 
 -- the same, by what its next block asks of the storage
-abbrev pub admitted : List Block → ℕ → ℕ → State → Transaction → State
-admitted bs e n s t = option_map_or (enters_if_free n t s) (asked e (block_at bs t.next)) s
+abbrev pub admit_by : List Block → ℕ → ℕ → State → Transaction → State
+admit_by bs e n s t = option_map_or (enters_if_free n t s) (units_asked e (block_at bs t.next)) s
 
 -- the walk comes to the waiter n
 abbrev pub looked_at : List Block → ℕ → ℕ → State → State
-looked_at bs e n s = option_map_or (admitted bs e n s) (attributes_at n s.transactions) s
+looked_at bs e n s = option_map_or (admit_by bs e n s) (attributes_at n s.transactions) s
 
 -- admission: one walk over those who wait for a storage, in their order
 unfoldable pub admission : List Block → ℕ → List ℕ → State → State
@@ -211,17 +211,17 @@ admission bs e (n ∷ ns) s = admission bs e ns (looked_at bs e n s)
 -- the effect of LEAVE: the transaction enters, units of the storage are given back, and waiters are admitted
 abbrev pub leave : List Block → ℕ → Transaction → Units → State → Outcome (State × Placement)
 leave bs n t u s =
-    leads bs (t.next + 1) (case_of (leaving u.number (storage u.entity s)) >>= λ r. stays (admission bs u.entity (delay_list u.entity s) (put_storage u.entity r (enters_and_falls n t s))))
+    leads bs (t.next + 1) (case_of (exit_of u.number (storage u.entity s)) >>= λ r. stays (admission bs u.entity (delay_list u.entity s) (put_storage u.entity r (enters_and_falls n t s))))
 
 -- QUEUES
 
 -- the effect of QUEUE: the transaction enters, and units join the queue, which never refuses
 abbrev pub join_queue : List Block → ℕ → Transaction → Units → State → Outcome (State × Placement)
-join_queue bs n t u s = leads bs (t.next + 1) (stays (put_queue u.entity (joined u.number (queue u.entity s)) (enters_and_falls n t s)))
+join_queue bs n t u s = leads bs (t.next + 1) (stays (put_queue u.entity (with_arrivals u.number (queue u.entity s)) (enters_and_falls n t s)))
 
 -- the effect of DEPART: the transaction enters, and units depart from the queue
 abbrev pub depart : List Block → ℕ → Transaction → Units → State → Outcome (State × Placement)
-depart bs n t u s = leads bs (t.next + 1) (case_of (departing u.number (queue u.entity s)) >>= λ r. stays (put_queue u.entity r (enters_and_falls n t s)))
+depart bs n t u s = leads bs (t.next + 1) (case_of (departure_of u.number (queue u.entity s)) >>= λ r. stays (put_queue u.entity r (enters_and_falls n t s)))
 
 -- CONDITIONS
 
@@ -234,22 +234,22 @@ led_by b otherwise false = unwrap_or otherwise (b + 1)
 
 -- the effect of TRANSFER: the transaction enters and goes to a block
 abbrev pub transfer : List Block → ℕ → Transaction → ℕ → State → Outcome (State × Placement)
-transfer bs n t target s = leads bs target (stays (entered n t target s))
+transfer bs n t target s = leads bs target (stays (enter_next n t target s))
 
 -- where a TRANSFER by fraction, the block of number b, leads to when so many thousandths are drawn
-abbrev pub chosen : ℕ → Fraction → ℤ → ℕ
-chosen b f drawn = if int_lt drawn (pos f.thousandths) then f.target else unwrap_or f.otherwise (b + 1)
+abbrev pub choice_of : ℕ → Fraction → ℤ → ℕ
+choice_of b f drawn = if int_lt drawn (pos f.thousandths) then f.target else unwrap_or f.otherwise (b + 1)
 
 -- the effect of TRANSFER BOTH: the transaction enters and stays at its block; both of its next blocks have to be there
 abbrev pub both : List Block → ℕ → Transaction → Both → State → Outcome (State × Placement)
 both bs n t two s =
-    leads bs (leads_to t.next (goes_or_falls two.first)) (leads bs two.second (stays (entered n t t.next s)))
+    leads bs (leads_to t.next (goes_or_falls two.first)) (leads bs two.second (stays (enter_next n t t.next s)))
 
 -- SUBROUTINES
 
 -- the effect of TRANSFER in subroutine mode: a parameter of the transaction is set to the number of the block, and the transaction enters and goes to the subroutine
 abbrev pub call : List Block → ℕ → Transaction → Call → State → Outcome (State × Placement)
-call bs n t c s = leads bs c.target (stays (entered n t c.target (assigned n c.parameter (pos t.next) s)))
+call bs n t c s = leads bs c.target (stays (enter_next n t c.target (assign_to n c.parameter (pos t.next) s)))
 
 -- the number of the block after the one whose number a value is; 0, which is no block's, where the value is below 0
 abbrev pub block_after : ℤ → ℕ
@@ -270,29 +270,29 @@ put_by Subtract old value = difference_of old value
 -- the effect of ASSIGN: a parameter of the transaction is set, where it has no value yet that counts as 0, and the transaction enters
 abbrev pub assign : List Block → ℕ → Transaction → Assign → ℤ → State → Outcome (State × Placement)
 assign bs n t a value s =
-    evaluated (answered (put_by a.mode (unwrap_or (parameter_at n a.parameter s.transactions) (pos 0)) value)) >>= λ new.
-    leads bs (t.next + 1) (stays (enters_and_falls n t (assigned n a.parameter new s)))
+    evaluation_outcome (evaluation_of (put_by a.mode (unwrap_or (parameter_at n a.parameter s.transactions) (pos 0)) value)) >>= λ new.
+    leads bs (t.next + 1) (stays (enters_and_falls n t (assign_to n a.parameter new s)))
 
 -- where a LOOP, the block of number b, leads to when its parameter has come to this
-abbrev pub looped : ℕ → ℕ → ℤ → ℕ
-looped b target left = if int_lt (pos 0) left then target else b + 1
+abbrev pub loop_target : ℕ → ℕ → ℤ → ℕ
+loop_target b target left = if int_lt (pos 0) left then target else b + 1
 
 -- the effect of LOOP: a parameter of the transaction, which has to be set, falls by one, and the transaction enters
 abbrev pub loop : List Block → ℕ → Transaction → Loop → State → Outcome (State × Placement)
 loop bs n t l s =
     case_of (parameter_at n l.parameter s.transactions) >>= λ old.
-    evaluated (answered (difference_of old (pos 1))) >>= λ left.
-    leads bs (looped t.next l.target left) (stays (entered n t (looped t.next l.target left) (assigned n l.parameter left s)))
+    evaluation_outcome (evaluation_of (difference_of old (pos 1))) >>= λ left.
+    leads bs (loop_target t.next l.target left) (stays (enter_next n t (loop_target t.next l.target left) (assign_to n l.parameter left s)))
 
 -- the effect of MARK: the clock is the transaction's mark time from now on, or the value of a parameter, and the transaction enters
 abbrev pub mark : List Block → ℕ → Transaction → Option ℕ → State → Outcome (State × Placement)
 mark bs n t None s = leads bs (t.next + 1) (stays (enters_and_falls n (record t { mark = s.clock }) s))
-mark bs n t (Some p) s = leads bs (t.next + 1) (stays (enters_and_falls n t (assigned n p s.clock s)))
+mark bs n t (Some p) s = leads bs (t.next + 1) (stays (enters_and_falls n t (assign_to n p s.clock s)))
 
 -- the effect of PLUS: the transaction enters, and a parameter of it has the value, if one takes it
 abbrev pub plus : List Block → ℕ → Transaction → Option ℕ → ℤ → State → Outcome (State × Placement)
 plus bs n t None value s = leads bs (t.next + 1) (stays (enters_and_falls n t s))
-plus bs n t (Some p) value s = leads bs (t.next + 1) (stays (enters_and_falls n t (assigned n p value s)))
+plus bs n t (Some p) value s = leads bs (t.next + 1) (stays (enters_and_falls n t (assign_to n p value s)))
 
 -- COPIES
 
@@ -314,7 +314,7 @@ assembly_at block set s = find (is_of block set) s.lists.assemblies
 
 -- one more has come to an assembly: where it was the last, who waits goes on
 abbrev pub joined_by_one : Assembly → State → State
-joined_by_one a s = if nat_le a.missing 1 then assembled a s else come_to a s
+joined_by_one a s = if nat_le a.missing 1 then assemble_all a s else come_to a s
 
 -- the first of its set enters an ASSEMBLE, and waits for so many more
 abbrev pub assemble_first : List Block → ℕ → Transaction → ℕ → State → Outcome (State × Placement)
@@ -322,7 +322,7 @@ assemble_first bs n t missing s = leads bs (t.next + 1) (Gives (enters_and_falls
 
 -- another of a set enters an ASSEMBLE, where the first waits, and is destroyed; it owns nothing
 abbrev pub assemble_other : ℕ → Transaction → Assembly → State → Outcome (State × Placement)
-assemble_other n t a s = only_if (not (owns_any n s.entities.facilities)) (Gives (joined_by_one a (entered n t t.next s), LeavesModel))
+assemble_other n t a s = only_if (not (owns_any n s.entities.facilities)) (Gives (joined_by_one a (enter_next n t t.next s), LeavesModel))
 
 -- one of a set of this size enters an ASSEMBLE: the assembly of its set has begun, or begins now
 abbrev pub assemble_in : List Block → ℕ → Transaction → ℕ → Option Assembly → State → Outcome (State × Placement)
@@ -337,7 +337,7 @@ assemble bs n t size s = if nat_le size 1 then leads bs (t.next + 1) (stays (ent
 
 -- the effect of LINK: the transaction enters, and joins a user chain
 abbrev pub link : ℕ → Transaction → Link → State → Outcome (State × Placement)
-link n t l s = Gives (entered n t t.next s, JoinsChain l)
+link n t l s = Gives (enter_next n t t.next s, JoinsChain l)
 
 -- the first of these, who are the members of a user chain, c, leaves it for a block, if there is one
 abbrev pub first_unlinked : ℕ → ℕ → List ℕ → State → State
@@ -345,9 +345,9 @@ first_unlinked c target [] s = s
 first_unlinked c target (n ∷ ns) s = option_map_or (λ t. leaves_chain c target n t s) (attributes_at n s.transactions) s
 
 -- so many members leave a user chain, c, for a block, one after the other from the front
-unfoldable pub unlinked : ℕ → ℕ → ℕ → State → State
-unlinked zero c target s = s
-unlinked (suc k) c target s = unlinked k c target (first_unlinked c target (user_chain c s) s)
+unfoldable pub unlink_members : ℕ → ℕ → ℕ → State → State
+unlink_members zero c target s = s
+unlink_members (suc k) c target s = unlink_members k c target (first_unlinked c target (user_chain c s) s)
 
 -- how many members an UNLINK takes from its user chain: as many as it asks for at most, or all
 abbrev pub taken_by : Unlink → State → ℕ
@@ -355,7 +355,7 @@ taken_by u s = option_map_or (λ most. min most (length (user_chain u.chain s)))
 
 -- the effect of UNLINK: the transaction enters, and members of a user chain leave it for a block
 abbrev pub unlink : List Block → ℕ → Transaction → Unlink → State → Outcome (State × Placement)
-unlink bs n t u s = leads bs (t.next + 1) (others_lead bs (taken_by u s) u.target (stays (unlinked (taken_by u s) u.chain u.target (enters_and_falls n t s))))
+unlink bs n t u s = leads bs (t.next + 1) (others_lead bs (taken_by u s) u.target (stays (unlink_members (taken_by u s) u.chain u.target (enters_and_falls n t s))))
 
 -- PRIORITY
 
@@ -386,20 +386,20 @@ logic bs n t l s = leads bs (t.next + 1) (stays (put_switch l.switch (switch_aft
 -- the effect of SAVEVALUE: the transaction enters, and the savevalue has another value
 abbrev pub save : List Block → ℕ → Transaction → Save → ℤ → State → Outcome (State × Placement)
 save bs n t a value s =
-    evaluated (answered (put_by a.mode (savevalue a.savevalue s) value)) >>= λ new.
+    evaluation_outcome (evaluation_of (put_by a.mode (savevalue a.savevalue s) value)) >>= λ new.
     leads bs (t.next + 1) (stays (put_savevalue a.savevalue new (enters_and_falls n t s)))
 
 -- the effect of TABULATE: the transaction enters, and the value is entered into the table
 abbrev pub tabulate : List Block → ℕ → Transaction → ℕ → ℤ → State → Outcome (State × Placement)
 tabulate bs n t e value s =
-    evaluated (answered (tabulating value (table e s))) >>= λ new.
+    evaluation_outcome (evaluation_of (tabulation_of value (table e s))) >>= λ new.
     leads bs (t.next + 1) (stays (put_table e new (enters_and_falls n t s)))
 
 -- THE END OF A TRANSACTION
 
 -- the effect of TERMINATE: the transaction, which owns nothing, enters and is destroyed, and the termination count falls, but not by less than 0
 abbrev pub terminate : ℕ → Transaction → ℤ → State → Outcome (State × Placement)
-terminate n t by s = if int_lt by (pos 0) then EndsBy Number else only_if (not (owns_any n s.entities.facilities)) (Gives (counted by (entered n t t.next s), LeavesModel))
+terminate n t by s = if int_lt by (pos 0) then EndsBy Number else only_if (not (owns_any n s.entities.facilities)) (Gives (count_down by (enter_next n t t.next s), LeavesModel))
 
 -- THE STEP OF THE ACTIVE TRANSACTION
 
@@ -418,7 +418,7 @@ effect p n t (blocks.Assign a) values s = assign p.blocks n t a (the_value value
 effect p n t (blocks.Test test) values s = transfer p.blocks n t (led_by t.next test.otherwise (passes_test test values)) s
 effect p n t (blocks.Gate gate) values s = transfer p.blocks n t (led_by t.next gate.otherwise (is_so gate.condition gate.entity s)) s
 effect p n t (blocks.Transfer target) values s = transfer p.blocks n t target s
-effect p n t (blocks.TransferByFraction f) values s = transfer p.blocks n t (chosen t.next f (the_value values)) s
+effect p n t (blocks.TransferByFraction f) values s = transfer p.blocks n t (choice_of t.next f (the_value values)) s
 effect p n t (blocks.TransferBoth two) values s = both p.blocks n t two s
 effect p n t (blocks.TransferToSubroutine c) values s = call p.blocks n t c s
 effect p n t (blocks.TransferByParameter q) values s = come_back p.blocks n t q s
@@ -438,15 +438,15 @@ effect p n t blocks.Buffer values s = passes p.blocks n t RestsBehind s
 
 -- what entering came to, with the transaction n placed
 abbrev pub then_placed : ℕ → Outcome (State × Placement) → Outcome State
-then_placed n outcome = outcome >>= λ e. Gives (placed n e.1 e.0)
+then_placed n outcome = outcome >>= λ e. Gives (place_by n e.1 e.0)
 
 -- the block refuses the active transaction n, which is t, or is entered by it
 abbrev pub meets : Parts → ℕ → Transaction → Block → List ℤ → State → Outcome State
 meets p n t block values s =
     if refuses n block values s
-    then Gives (placed n (refused_placement block) s)
+    then Gives (place_by n (refused_placement block) s)
     else then_placed n (effect p n t block values s)
 
 -- the active transaction n, which is t, at its next block: the operands are evaluated before it enters, and their draws stand also where it is refused
 unfoldable pub act : Parts → ℕ → Transaction → Block → State → Outcome State
-act p n t block s = evaluated (operands p (environment_of n t s) block s.streams) >>= λ read. meets p n t block read.0 (with_streams read.1 s)
+act p n t block s = evaluation_outcome (operands p (environment_of n t s) block s.streams) >>= λ read. meets p n t block read.0 (with_streams read.1 s)

@@ -14,7 +14,7 @@ use Rattle.gw_step.specs.Job.{Job, JobFits, Step, IsFinal, IsStuck, Alone, start
 use Rattle.gw_step.specs.Residence.{occurrences, occurrences_in}
 use Rattle.gw_transactions.specs.declared.Transaction.{Transaction}
 use Rattle.gw_transactions.specs.Transactions.{attributes_at}
-use Rattle.gw_step.specs.Turning.{two_next, turned}
+use Rattle.gw_step.specs.Turning.{two_next, turn_to}
 use Rattle.gw_step.specs.Typing.{WellTyped, AreWithinCapacity, AreConserved, IsWoken}
 
 -- a job of a checked object has a start state
@@ -46,7 +46,7 @@ abbrev pub TurnsKeepTypes : Type 0
 TurnsKeepTypes =
     (p : Parts) (s : State) (n : ℕ) (t : Transaction) (pair : ℕ × ℕ) → Checked p → WellTyped p s
     → s.lists.active ≡ Some n → attributes_at n s.transactions ≡ Some t → two_next p t ≡ Some pair
-    → WellTyped p (turned n t pair.0 s) × WellTyped p (turned n t pair.1 s)
+    → WellTyped p (turn_to n t pair.0 s) × WellTyped p (turn_to n t pair.1 s)
 
 -- in a well-typed state the active transaction has all that its next block asks for
 abbrev pub BlocksAreServed : Type 0

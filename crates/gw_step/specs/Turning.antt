@@ -28,5 +28,5 @@ abbrev pub towards : ℕ → Transaction → Transaction
 towards b t = record t { next = b }
 
 -- the transaction n, which is t, turns to one block
-abbrev pub turned : ℕ → Transaction → ℕ → State → State
-turned n t b s = record s { transactions = put_attributes n (towards b t) s.transactions }
+abbrev pub turn_to : ℕ → Transaction → ℕ → State → State
+turn_to n t b s = record s { transactions = put_attributes n (towards b t) s.transactions }

@@ -26,13 +26,13 @@ abbrev pub height : ℕ → List (Option ℤ) → ℕ
 height q parameters = option_map_or above (at None parameters q) 0
 
 -- what a slope adds to a weight, where these are the parameters
-abbrev pub added : Option (ℕ × ℕ) → List (Option ℤ) → ℕ
-added None parameters = 0
-added (Some slope) parameters = slope.1 * height slope.0 parameters
+abbrev pub slope_addition : Option (ℕ × ℕ) → List (Option ℤ) → ℕ
+slope_addition None parameters = 0
+slope_addition (Some slope) parameters = slope.1 * height slope.0 parameters
 
 -- what somebody with these parameters weighs who is about to enter the block of a number
 abbrev pub weighs_there : Parts → ℕ → List (Option ℤ) → ℕ
-weighs_there p b parameters = weight_at p.weights b + added (slope_at p.slopes b) parameters
+weighs_there p b parameters = weight_at p.weights b + slope_addition (slope_at p.slopes b) parameters
 
 -- the weight of the heavier of two blocks
 abbrev pub heavier : Parts → ℕ × ℕ → List (Option ℤ) → ℕ

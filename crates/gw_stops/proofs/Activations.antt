@@ -17,7 +17,7 @@ use Rattle.gw_operands.specs.Environment.{Environment}
 use Rattle.gw_operands.specs.Values.{Value as Comes, Unset, ◌>>=◌, came_to, if_set, source_value, operand_value, draws_below}
 use Rattle.gw_operands.specs.Results.{value_by_operand}
 use Rattle.gw_operands.specs.Code.{most_values, procedure_at, arguments_of, takes, leaves, called_in, costs_of}
-use Rattle.gw_operands.specs.Meaning.{Frame, Next, Goes, Calls, Returns, Stuck, on, pushed, given, popped, calculated, opening, act, next, reads_source, calls_with, Derives}
+use Rattle.gw_operands.specs.Meaning.{Frame, Next, Goes, Calls, Returns, Stuck, on, push_value, or_stuck, pop_value, calculate, opening_frame, act, next, reads_source, calls_with, Derives}
 use Rattle.gw_operands.specs.Outcome.{Answer, answer_within, outcome_of}
 use Rattle.gw_rules.proofs.Outcomes.{Continues, Unrolled, unroll, one_outcome}
 use Rattle.gw_rules.proofs.Within.{answers_are_derived}
@@ -27,11 +27,11 @@ use Rattle.gw_stops.specs.Activations.{GetsStuck, at_once, later, in_a_call, no_
 
 module _ (p : Parts) (env : Environment) where
   -- a call that came to a value comes to no other outcome
-  came_once : (n q : ℕ) (f g : Frame) (arguments : List ℤ) (finish : ℤ → ℤ) (m k : ℕ) (v : ℤ) (r : Result ℤ PlusEnd) → next p env n f ≡ Calls q arguments finish g → Derives p env q (opening (procedure_at p q) arguments) m (Ok v) → Derives p env n f k r
+  came_once : (n q : ℕ) (f g : Frame) (arguments : List ℤ) (finish : ℤ → ℤ) (m k : ℕ) (v : ℤ) (r : Result ℤ PlusEnd) → next p env n f ≡ Calls q arguments finish g → Derives p env q (opening_frame (procedure_at p q) arguments) m (Ok v) → Derives p env n f k r
       → (i : ℕ) × Continues p env n finish g k i (Ok v) r
   came_once n q f g arguments finish m k v r is d derived =
       let u = subst (λ x. Unrolled p env n x k r) is (unroll derived) in
-      let same = one_outcome p env q (opening (procedure_at p q) arguments) u.0 m u.1 (Ok v) u.2 d in
+      let same = one_outcome p env q (opening_frame (procedure_at p q) arguments) u.0 m u.1 (Ok v) u.2 d in
       (u.0, subst (λ a. Continues p env n finish g k u.0 a r) same.1 u.3)
 
   never : (n : ℕ) (f : Frame) → GetsStuck p env n f → (k : ℕ) (r : Result ℤ PlusEnd) → Derives p env n f k r → ⊥
@@ -39,7 +39,7 @@ module _ (p : Parts) (env : Environment) where
   never n f (later {g = g} is stuck) k r d =
       let u = subst (λ x. Unrolled p env n x k r) is (unroll d) in never n g stuck u.0 r u.1
   never n f (in_a_call {q = q} {arguments = arguments} is stuck) k r d =
-      let u = subst (λ x. Unrolled p env n x k r) is (unroll d) in never q (opening (procedure_at p q) arguments) stuck u.0 u.1 u.2
+      let u = subst (λ x. Unrolled p env n x k r) is (unroll d) in never q (opening_frame (procedure_at p q) arguments) stuck u.0 u.1 u.2
   never n f (no_room {q = q} {g = g} {arguments = arguments} {finish = finish} {m = m} {v = v} is came full) k r d =
       let u = came_once n q f g arguments finish m k v r is came d in
       let both : Stuck ≡ Goes u.1.0 = sym full ∙ u.1.2 in absurd cc
@@ -56,9 +56,9 @@ no_answer : (p : Parts) (env : Environment) (most n : ℕ) (f : Frame) → GetsS
 no_answer p env most n f stuck None is = refl
 no_answer p env most n f stuck (Some r) is = let d = answers_are_derived p env most n f r is in absurd (never p env n f stuck d.0 r d.1)
 
-no_outcome : (p : Parts) (env : Environment) (q : ℕ) → GetsStuck p env q (opening (procedure_at p q) []) → outcome_of p env q ≡ None
+no_outcome : (p : Parts) (env : Environment) (q : ℕ) → GetsStuck p env q (opening_frame (procedure_at p q) []) → outcome_of p env q ≡ None
 unfolding outcome_of
-no_outcome p env q stuck = no_answer p env (at 0 (costs_of p) q) q (opening (procedure_at p q) []) stuck _ refl
+no_outcome p env q stuck = no_answer p env (at 0 (costs_of p) q) q (opening_frame (procedure_at p q) []) stuck _ refl
 
 -- WHERE AN ACTIVATION IS STUCK
 
@@ -66,8 +66,8 @@ no_outcome p env q stuck = no_answer p env (at 0 (costs_of p) q) q (opening (pro
 acts : (p : Parts) (env : Environment) (n : ℕ) (f : Frame) (i : Instruction) (x : Next) → ComesTo p n f i → act p env i f ≡ x → next p env n f ≡ x
 unfolding next
 acts p env n f i x comes is =
-    ap (λ o. given o (λ pr. given (slice_get pr.code f.place) (λ i. act p env i f))) comes.1
-    ∙ ap (λ o. given o (λ i. act p env i f)) comes.2
+    ap (λ o. or_stuck o (λ pr. or_stuck (slice_get pr.code f.place) (λ i. act p env i f))) comes.1
+    ∙ ap (λ o. or_stuck o (λ i. act p env i f)) comes.2
     ∙ is
 
 -- what is done where a test holds is stuck where it doesn't
@@ -82,21 +82,21 @@ nothing_there (x ∷ xs) zero beyond = absurd (omega (arith, beyond))
 nothing_there (x ∷ xs) (suc k) beyond = nothing_there xs k (omega (arith, beyond))
 
 -- nothing is on top of an empty stack
-pops_nothing : (stack : List ℤ) (then_ : ℤ → List ℤ → Next) → length stack < 1 → popped stack then_ ≡ Stuck
+pops_nothing : (stack : List ℤ) (then_ : ℤ → List ℤ → Next) → length stack < 1 → pop_value stack then_ ≡ Stuck
 pops_nothing [] then_ few = refl
 pops_nothing (v ∷ stack) then_ few = absurd (omega (arith, few))
 
 -- what is stuck with each value is stuck
-stuck_with : {X : Type 0} (o : Option X) (then_ : X → Next) → ((x : X) → then_ x ≡ Stuck) → given o then_ ≡ Stuck
+stuck_with : {X : Type 0} (o : Option X) (then_ : X → Next) → ((x : X) → then_ x ≡ Stuck) → or_stuck o then_ ≡ Stuck
 stuck_with None then_ stuck = refl
 stuck_with (Some x) then_ stuck = stuck x
 
-pops_two : (stack : List ℤ) (then_ : ℤ → ℤ → List ℤ → Next) → length stack < 2 → popped stack (λ right rest. popped rest (λ left below. then_ right left below)) ≡ Stuck
+pops_two : (stack : List ℤ) (then_ : ℤ → ℤ → List ℤ → Next) → length stack < 2 → pop_value stack (λ right rest. pop_value rest (λ left below. then_ right left below)) ≡ Stuck
 pops_two [] then_ few = refl
 pops_two (v ∷ []) then_ few = refl
 pops_two (v ∷ w ∷ stack) then_ few = absurd (omega (arith, few))
 
-too_few_arguments : (q : ℕ) (f : Frame) (o : Option Procedure) → length f.stack < arguments_of o → given o (λ pr. calls_with q pr.arguments (on f)) ≡ Stuck
+too_few_arguments : (q : ℕ) (f : Frame) (o : Option Procedure) → length f.stack < arguments_of o → or_stuck o (λ pr. calls_with q pr.arguments (on f)) ≡ Stuck
 too_few_arguments q f None few = refl
 too_few_arguments q f (Some pr) few = without (nat_le pr.arguments (length f.stack)) _ (lt-leb pr.arguments (length f.stack) few)
 
@@ -106,8 +106,8 @@ empty p env (Push v) f few = absurd (omega (arith, few))
 empty p env (Get local) f few = absurd (omega (arith, few))
 empty p env (Set local) f few = pops_nothing f.stack (λ v rest. if nat_lt local (length f.locals) then Goes (record f { place = f.place + 1; stack = rest; locals = slice_set f.locals local v }) else Stuck) few
 empty p env (Value sna) f few = absurd (omega (arith, few))
-empty p env (Binary operator) f few = pops_two f.stack (λ right left below. calculated (binary_value operator left right) (record f { place = f.place + 1; stack = below })) few
-empty p env (Unary operator) f few = pops_nothing f.stack (λ v rest. calculated (unary_value operator v) (record f { place = f.place + 1; stack = rest })) few
+empty p env (Binary operator) f few = pops_two f.stack (λ right left below. calculate (binary_value operator left right) (record f { place = f.place + 1; stack = below })) few
+empty p env (Unary operator) f few = pops_nothing f.stack (λ v rest. calculate (unary_value operator v) (record f { place = f.place + 1; stack = rest })) few
 empty p env Pop f few = pops_nothing f.stack (λ v rest. Goes (record f { place = f.place + 1; stack = rest })) few
 empty p env (Jump target) f few = absurd (omega (arith, few))
 empty p env (JumpIfZero target) f few = pops_nothing f.stack (λ v rest. Goes (record f { place = (if is_zero v then target else f.place + 1); stack = rest })) few
@@ -150,21 +150,21 @@ full_stack_stops p env n f i comes none more much = acts p env n f i Stuck comes
 pub jump_out_stops : JumpOutStops
 unfolding next
 jump_out_stops p env n f code there beyond =
-    ap (λ o. given o (λ pr. given (slice_get pr.code f.place) (λ i. act p env i f))) there
-    ∙ ap (λ o. given o (λ i. act p env i f)) (nothing_there code.code f.place beyond)
+    ap (λ o. or_stuck o (λ pr. or_stuck (slice_get pr.code f.place) (λ i. act p env i f))) there
+    ∙ ap (λ o. or_stuck o (λ i. act p env i f)) (nothing_there code.code f.place beyond)
 
 pub absent_procedure_stops : AbsentProcedureStops
 unfolding next
-absent_procedure_stops p env n f none = ap (λ o. given o (λ pr. given (slice_get pr.code f.place) (λ i. act p env i f))) none
+absent_procedure_stops p env n f none = ap (λ o. or_stuck o (λ pr. or_stuck (slice_get pr.code f.place) (λ i. act p env i f))) none
 
 pub call_of_absent_stops : CallOfAbsentStops
 unfolding act
-call_of_absent_stops p env n f q comes none = acts p env n f (Call q) Stuck comes (ap (λ o. given o (λ pr. calls_with q pr.arguments (on f))) none)
+call_of_absent_stops p env n f q comes none = acts p env n f (Call q) Stuck comes (ap (λ o. or_stuck o (λ pr. calls_with q pr.arguments (on f))) none)
 
 pub get_of_absent_stops : GetOfAbsentStops
 unfolding act
 get_of_absent_stops p env n f local comes beyond =
-    acts p env n f (Get local) Stuck comes (ap (λ o. given o (λ v. pushed v (on f))) (nothing_there f.locals local beyond))
+    acts p env n f (Get local) Stuck comes (ap (λ o. or_stuck o (λ v. push_value v (on f))) (nothing_there f.locals local beyond))
 
 pub set_of_absent_stops : SetOfAbsentStops
 unfolding act
@@ -176,7 +176,7 @@ pub unset_value_stops : UnsetValueStops
 unfolding act
 unset_value_stops p env n q f sna comes is unset =
     acts p env n f (Value sna) Stuck comes
-    (ap (λ source. reads_source env source (value_by_operand p.entities (as_operand sna)) (on f)) is ∙ ap (λ o. given o (λ v. pushed (value_by_operand p.entities (as_operand sna) v) (on f))) unset)
+    (ap (λ source. reads_source env source (value_by_operand p.entities (as_operand sna)) (on f)) is ∙ ap (λ o. or_stuck o (λ v. push_value (value_by_operand p.entities (as_operand sna) v) (on f))) unset)
 
 -- OPERANDS WITHOUT A VALUE
 

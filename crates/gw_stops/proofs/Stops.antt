@@ -10,8 +10,8 @@ use Rattle.gw_blocks.specs.declared.parts.Block.{Block}
 use Rattle.gw_blocks.specs.declared.parts.Block.TheVariants as blocks
 use Rattle.gw_object.specs.declared.parts.Parts.{Parts}
 use Rattle.gw_operands.specs.Environment.{Environment}
-use Rattle.gw_operands.specs.Sources.{operand_at, evaluated as evaluated_at}
-use Rattle.gw_operands.specs.Values.{Evaluation, Value, Unset, ◌>>=◌ as ◌then◌, answered, operand_value, drawn_time, single_value, one_operand, operands}
+use Rattle.gw_operands.specs.Sources.{operand_at, evaluation_operands as evaluated_at}
+use Rattle.gw_operands.specs.Values.{Evaluation, Value, Unset, ◌>>=◌ as ◌then◌, evaluation_of, operand_value, drawn_time, single_value, one_operand, operands}
 use Rattle.gw_rules.specs.Kinds.{block_at, is_generate}
 use Rattle.gw_rules.specs.Exits.{leads_to, goes_or_falls}
 use Rattle.gw_num.specs.Table.{at}
@@ -21,19 +21,19 @@ use Rattle.gw_transactions.specs.declared.Transaction.{Transaction}
 use Rattle.gw_transactions.specs.Transactions.{parameter_at, live_count}
 use Rattle.gw_entities.specs.declared.facilities.Facility.{Facility}
 use Rattle.gw_entities.specs.declared.storages.Storage.{Storage}
-use Rattle.gw_entities.specs.Facility.{idle, is_owned_by, owns_any, seizing, releasing, released, is_idle, seized}
-use Rattle.gw_entities.specs.Storage.{has_room, entered, entering, leaving, left}
-use Rattle.gw_entities.specs.Queue.{departing, departed}
+use Rattle.gw_entities.specs.Facility.{idle, is_owned_by, owns_any, seizure_by, release_by, without_owner, is_idle, with_owner}
+use Rattle.gw_entities.specs.Storage.{has_room, with_entries, entry_of, exit_of, with_exits}
+use Rattle.gw_entities.specs.Queue.{departure_of, with_departures}
 use Rattle.gw_step.specs.declared.ends.End.TheVariants.{Number, Live}
-use Rattle.gw_step.specs.Outcome.{Outcome, Gives, EndsBy, HasNoCase, ◌>>=◌, only_if, case_of, evaluated}
+use Rattle.gw_step.specs.Outcome.{Outcome, Gives, EndsBy, HasNoCase, ◌>>=◌, only_if, case_of, evaluation_outcome}
 use Rattle.gw_step.specs.State.{Assembly, State, may_enter, with_streams}
 use Rattle.gw_step.specs.Times.{environment_of, environment_of_next, moment_after, drawn_moment}
 use Rattle.gw_step.specs.Changes.{facility, storage, queue}
-use Rattle.gw_step.specs.Blocks.{has_to_wait, refuses, refused_placement, the_value, leads, is_owed, next_arrival, others_lead, block_after, looped, assembly_at, assemble_in, taken_by, plus, then_placed, effect, meets, act}
-use Rattle.gw_step.specs.Start.{nothing, started, first_moment, first_arrival, first_arrivals}
+use Rattle.gw_step.specs.Blocks.{has_to_wait, refuses, refused_placement, the_value, leads, is_owed, next_arrival, others_lead, block_after, loop_target, assembly_at, assemble_in, taken_by, plus, then_placed, effect, meets, act}
+use Rattle.gw_step.specs.Start.{nothing, start_outcome, first_moment, first_arrival, first_arrivals}
 use Rattle.gw_step.specs.declared.placement.Placement.TheVariants.{JoinsRetryList}
-use Rattle.gw_step.specs.Placing.{placed}
-use Rattle.gw_step.specs.Turning.{two_next, towards, turned}
+use Rattle.gw_step.specs.Placing.{place_by}
+use Rattle.gw_step.specs.Turning.{two_next, towards, turn_to}
 use Rattle.gw_step.specs.Step.{meets_one, tries, goes_on, scan}
 use Rattle.gw_step.specs.Job.{Job, IsStuck}
 use Rattle.gw_step.proofs.Steps.{step-none}
@@ -92,7 +92,7 @@ leads_to_none bs a b o to none = let same : a ≡ b = cc in leads_none bs a o (s
 
 module _ (p : Parts) (n : ℕ) where
   -- who has no case at a block isn't refused there
-  unrefused : (t : Transaction) (block : Block) (u : State) (read : List ℤ × List ℕ) (refused : Bool) → (if refused then Gives (placed n (refused_placement block) (with_streams read.1 u)) else then_placed n (effect p n t block read.0 (with_streams read.1 u))) ≡ HasNoCase → refused ≡ false
+  unrefused : (t : Transaction) (block : Block) (u : State) (read : List ℤ × List ℕ) (refused : Bool) → (if refused then Gives (place_by n (refused_placement block) (with_streams read.1 u)) else then_placed n (effect p n t block read.0 (with_streams read.1 u))) ≡ HasNoCase → refused ≡ false
   unrefused t block u read true none = absurd cc
   unrefused t block u read false none = refl
 
@@ -108,22 +108,22 @@ module _ (p : Parts) (n : ℕ) where
     by_operands block HasNoCase met none = refl
 
     by_block : (block : Option Block) → meets_one p n t u ≡ HasNoCase → (case_of block >>= λ block. act p n t block u) ≡ HasNoCase
-        → ((case_of block >>= λ block. evaluated (operands p (environment_of n t u) block u.streams) >>= λ read. Gives (refuses n block read.0 (with_streams read.1 u), read.1)) >>= answered_so) ≡ HasNoCase
+        → ((case_of block >>= λ block. evaluation_outcome (operands p (environment_of n t u) block u.streams) >>= λ read. Gives (refuses n block read.0 (with_streams read.1 u), read.1)) >>= answered_so) ≡ HasNoCase
     unfolding act
     by_block None met none = refl
-    by_block (Some block) met none = by_operands block (evaluated (operands p (environment_of n t u) block u.streams)) met none
+    by_block (Some block) met none = by_operands block (evaluation_outcome (operands p (environment_of n t u) block u.streams)) met none
 
-  tries_none : (t : Transaction) (b : ℕ) (otherwise : State → Outcome State) (s : State) → meets_one p n (towards b t) (turned n t b s) ≡ HasNoCase → tries p n t b otherwise s ≡ HasNoCase
-  tries_none t b otherwise s none = by_block (towards b t) (turned n t b s) (λ streams. otherwise (with_streams streams s)) (block_at p.blocks b) none none
+  tries_none : (t : Transaction) (b : ℕ) (otherwise : State → Outcome State) (s : State) → meets_one p n (towards b t) (turn_to n t b s) ≡ HasNoCase → tries p n t b otherwise s ≡ HasNoCase
+  tries_none t b otherwise s none = by_block (towards b t) (turn_to n t b s) (λ streams. otherwise (with_streams streams s)) (block_at p.blocks b) none none
 
   goes_on_none : (s u : State) (own t : Transaction) → Attempt p s n own t u → meets_one p n t u ≡ HasNoCase → goes_on p n own (two_next p own) s ≡ HasNoCase
   goes_on_none s u own t (at_its_one one) none = ap (λ two. goes_on p n own two s) one ∙ none
   goes_on_none s u own t (at_the_first {pair = pair} two) none =
-      ap (λ two. goes_on p n own two s) two ∙ tries_none own pair.0 (λ v. tries p n own pair.1 (λ w. Gives (placed n JoinsRetryList w)) v) s none
+      ap (λ two. goes_on p n own two s) two ∙ tries_none own pair.0 (λ v. tries p n own pair.1 (λ w. Gives (place_by n JoinsRetryList w)) v) s none
   goes_on_none s u own t (at_the_second {pair = pair} {streams = streams} two refused) none =
       ap (λ two. goes_on p n own two s) two
-      ∙ ap (λ o. o >>= λ answer. if answer.0 then tries p n own pair.1 (λ w. Gives (placed n JoinsRetryList w)) (with_streams answer.1 s) else meets_one p n (towards pair.0 own) (turned n own pair.0 s)) refused
-      ∙ tries_none own pair.1 (λ w. Gives (placed n JoinsRetryList w)) (with_streams streams s) none
+      ∙ ap (λ o. o >>= λ answer. if answer.0 then tries p n own pair.1 (λ w. Gives (place_by n JoinsRetryList w)) (with_streams answer.1 s) else meets_one p n (towards pair.0 own) (turn_to n own pair.0 s)) refused
+      ∙ tries_none own pair.1 (λ w. Gives (place_by n JoinsRetryList w)) (with_streams streams s) none
 
 -- what an attempt of the active transaction comes to
 stuck_before : (j : Job) (s u : State) (n : ℕ) (t : Transaction) → Attempts j s u n t → meets_one j.parts n t u ≡ HasNoCase → IsStuck j s
@@ -144,7 +144,7 @@ no_effect : (p : Parts) (n : ℕ) (t : Transaction) (block : Block) (values : Li
     → effect p n t block values (with_streams streams s) ≡ HasNoCase → act p n t block s ≡ HasNoCase
 unfolding act
 no_effect p n t block values streams s read free none =
-    ap (λ o. evaluated o >>= λ read. meets p n t block read.0 (with_streams read.1 s)) read
+    ap (λ o. evaluation_outcome o >>= λ read. meets p n t block read.0 (with_streams read.1 s)) read
     ∙ else_none (refuses n block values (with_streams streams s)) _ _ free (ap (then_placed n) none)
 
 -- FACILITIES
@@ -154,17 +154,17 @@ unfolding effect
 release_of_anothers_stops j s u n f t tries owned =
     stuck_at j s u n t (blocks.Release f) tries
     (no_effect j.parts n t (blocks.Release f) [] u.streams u refl refl
-    (asks_in_vain j.parts.blocks (t.next + 1) (releasing n (facility f u)) _ (ap (λ b. if b then Some (released (facility f u)) else None) owned)))
+    (asks_in_vain j.parts.blocks (t.next + 1) (release_by n (facility f u)) _ (ap (λ b. if b then Some (without_owner (facility f u)) else None) owned)))
 
-seizes_nothing : (n : ℕ) (f : Facility) → is_owned_by n f ≡ true → seizing n f ≡ None
-seizes_nothing n f owned = ap (λ b. if b then None else if is_idle f then Some (true, seized n f) else Some (false, f)) owned
+seizes_nothing : (n : ℕ) (f : Facility) → is_owned_by n f ≡ true → seizure_by n f ≡ None
+seizes_nothing n f owned = ap (λ b. if b then None else if is_idle f then Some (true, with_owner n f) else Some (false, f)) owned
 
 pub seize_of_ones_own_stops : SeizeOfOnesOwnStops
 unfolding effect
 seize_of_ones_own_stops j s u n f t tries owned =
     stuck_at j s u n t (blocks.Seize f) tries
     (no_effect j.parts n t (blocks.Seize f) [] u.streams u refl (ap has_to_wait (seizes_nothing n (facility f u) owned))
-    (asks_in_vain j.parts.blocks (t.next + 1) (seizing n (facility f u)) _ (seizes_nothing n (facility f u) owned)))
+    (asks_in_vain j.parts.blocks (t.next + 1) (seizure_by n (facility f u)) _ (seizes_nothing n (facility f u) owned)))
 
 -- who owns one owns any
 owning : (n f : ℕ) (facilities : List Facility) → is_owned_by n (at idle facilities f) ≡ true → owns_any n facilities ≡ true
@@ -199,24 +199,24 @@ unfolding effect
 leave_of_too_much_stops j s u n t units tries few =
     stuck_at j s u n t (blocks.Leave units) tries
     (no_effect j.parts n t (blocks.Leave units) [] u.streams u refl refl
-    (asks_in_vain j.parts.blocks (t.next + 1) (leaving units.number (storage units.entity u)) _ (ap (λ b. if b then Some (left units.number (storage units.entity u)) else None) (lt-leb units.number (storage units.entity u).contents.content few))))
+    (asks_in_vain j.parts.blocks (t.next + 1) (exit_of units.number (storage units.entity u)) _ (ap (λ b. if b then Some (with_exits units.number (storage units.entity u)) else None) (lt-leb units.number (storage units.entity u).contents.content few))))
 
 pub depart_of_too_much_stops : DepartOfTooMuchStops
 unfolding effect
 depart_of_too_much_stops j s u n t units tries few =
     stuck_at j s u n t (blocks.Depart units) tries
     (no_effect j.parts n t (blocks.Depart units) [] u.streams u refl refl
-    (asks_in_vain j.parts.blocks (t.next + 1) (departing units.number (queue units.entity u)) _ (ap (λ b. if b then Some (departed units.number (queue units.entity u)) else None) (lt-leb units.number (queue units.entity u).content few))))
+    (asks_in_vain j.parts.blocks (t.next + 1) (departure_of units.number (queue units.entity u)) _ (ap (λ b. if b then Some (with_departures units.number (queue units.entity u)) else None) (lt-leb units.number (queue units.entity u).content few))))
 
-enters_nothing : (n : ℕ) (s : Storage) → s.capacity < n → entering n s ≡ None
-enters_nothing n s above = ap (λ b. if b then (if has_room n s then Some (true, entered n s) else Some (false, s)) else None) (lt-leb n s.capacity above)
+enters_nothing : (n : ℕ) (s : Storage) → s.capacity < n → entry_of n s ≡ None
+enters_nothing n s above = ap (λ b. if b then (if has_room n s then Some (true, with_entries n s) else Some (false, s)) else None) (lt-leb n s.capacity above)
 
 pub enter_above_capacity_stops : EnterAboveCapacityStops
 unfolding effect
 enter_above_capacity_stops j s u n t units tries above =
     stuck_at j s u n t (blocks.Enter units) tries
     (no_effect j.parts n t (blocks.Enter units) [] u.streams u refl (ap has_to_wait (enters_nothing units.number (storage units.entity u) above))
-    (asks_in_vain j.parts.blocks (t.next + 1) (entering units.number (storage units.entity u)) _ (enters_nothing units.number (storage units.entity u) above)))
+    (asks_in_vain j.parts.blocks (t.next + 1) (entry_of units.number (storage units.entity u)) _ (enters_nothing units.number (storage units.entity u) above)))
 
 -- MOVES
 
@@ -224,8 +224,8 @@ pub missing_block_stops : MissingBlockStops
 missing_block_stops j s u n t attempts none = stuck_before j s u n t attempts (absent (block_at j.parts.blocks t.next) (λ block. act j.parts n t block u) none)
 
 -- what arithmetic answered is given
-answers : {A : Type 0} (r : Result A NumFault) (a : A) → r ≡ Ok a → evaluated (answered r) ≡ Gives a
-answers r a is = ap (λ r. evaluated (answered r)) is
+answers : {A : Type 0} (r : Result A NumFault) (a : A) → r ≡ Ok a → evaluation_outcome (evaluation_of r) ≡ Gives a
+answers r a is = ap (λ r. evaluation_outcome (evaluation_of r)) is
 
 module _ (p : Parts) (n b : ℕ) (t : Transaction) (none : IsNoTarget p.blocks b) where
   comes_back_to_none : {A : Type 0} (value : Option ℤ) (f : ℤ → Outcome A) → option_map block_after value ≡ Some b → (case_of value >>= λ v. leads p.blocks (block_after v) (f v)) ≡ HasNoCase
@@ -233,10 +233,10 @@ module _ (p : Parts) (n b : ℕ) (t : Transaction) (none : IsNoTarget p.blocks b
   comes_back_to_none (Some v) f to = leads_to_none p.blocks (block_after v) b (f v) to none
 
   loops_to_none : {A : Type 0} (value : Option ℤ) (to_ : ℤ → ℕ) (f : ℤ → Outcome A) → IfSome value (λ old. difference_of old (pos 1) ≡ Ok (old -ℤ pos 1)) → option_map (λ old. to_ (old -ℤ pos 1)) value ≡ Some b
-      → (case_of value >>= λ old. evaluated (answered (difference_of old (pos 1))) >>= λ left. leads p.blocks (to_ left) (f left)) ≡ HasNoCase
+      → (case_of value >>= λ old. evaluation_outcome (evaluation_of (difference_of old (pos 1))) >>= λ left. leads p.blocks (to_ left) (f left)) ≡ HasNoCase
   loops_to_none None to_ f counts to = refl
   loops_to_none (Some old) to_ f counts to =
-      then_none (evaluated (answered (difference_of old (pos 1)))) (λ left. leads p.blocks (to_ left) (f left)) (old -ℤ pos 1) (answers (difference_of old (pos 1)) (old -ℤ pos 1) counts)
+      then_none (evaluation_outcome (evaluation_of (difference_of old (pos 1)))) (λ left. leads p.blocks (to_ left) (f left)) (old -ℤ pos 1) (answers (difference_of old (pos 1)) (old -ℤ pos 1) counts)
       (leads_to_none p.blocks (to_ (old -ℤ pos 1)) b (f (old -ℤ pos 1)) to none)
 
   assembles_to_none : (size : ℕ) (s : State) (one : Bool) (a : Option Assembly) (o : Outcome _) → (if not one && is_some a then None else Some (t.next + 1)) ≡ Some b → (if one then leads p.blocks (t.next + 1) o else assemble_in p.blocks n t size a s) ≡ HasNoCase
@@ -264,7 +264,7 @@ module _ (p : Parts) (n b : ℕ) (t : Transaction) (none : IsNoTarget p.blocks b
   no_move (blocks.TransferBoth two) values s ends to = absurd cc
   no_move (blocks.TransferToSubroutine c) values s ends to = leads_to_none p.blocks _ b _ to none
   no_move (blocks.TransferByParameter q) values s ends to = comes_back_to_none (parameter_at n q s.transactions) _ to
-  no_move (blocks.Loop l) values s ends to = loops_to_none (parameter_at n l.parameter s.transactions) (looped t.next l.target) _ ends to
+  no_move (blocks.Loop l) values s ends to = loops_to_none (parameter_at n l.parameter s.transactions) (loop_target t.next l.target) _ ends to
   no_move (blocks.Split c) values s ends to = if_none (nat_le (live_count s.transactions + c.copies) 65536) _ (EndsBy Live) (le-leb _ 65536 ends) (falls_to_none _ to)
   no_move (blocks.Assemble size) values s ends to = assembles_to_none size s (nat_le size 1) (assembly_at t.next t.set s) _ to
   no_move (blocks.Link l) values s ends to = absurd cc
@@ -343,7 +343,7 @@ module _ (p : Parts) (env : Environment) where
   no_time time streams lacks = in_order time.mean time.half streams _ lacks
 
   no_moment : (time : Spread) (clock : ℤ) (streams : List ℕ) → OneLacksValue p env (time.mean ∷ time.half ∷ []) streams → drawn_moment p env time clock streams ≡ HasNoCase
-  no_moment time clock streams lacks = ap (λ v. evaluated v >>= λ d. moment_after clock d.0 >>= λ moment. Gives (moment, d.1)) (no_time time streams lacks)
+  no_moment time clock streams lacks = ap (λ v. evaluation_outcome v >>= λ d. moment_after clock d.0 >>= λ moment. Gives (moment, d.1)) (no_time time streams lacks)
 
   no_values : (block : Block) (streams : List ℕ) → is_generate (Some block) ≡ false → OneLacksValue p env (evaluated_at p.entities block) streams → operands p env block streams ≡ Unset
   no_values (blocks.Generate g) streams other lacks = absurd cc
@@ -361,7 +361,7 @@ pub operand_without_value_stops : OperandWithoutValueStops
 unfolding act
 operand_without_value_stops j s u n t block tries other lacks =
     stuck_at j s u n t block tries
-    (ap (λ o. evaluated o >>= λ read. meets j.parts n t block read.0 (with_streams read.1 u)) (no_values j.parts (environment_of n t u) block u.streams other lacks))
+    (ap (λ o. evaluation_outcome o >>= λ read. meets j.parts n t block read.0 (with_streams read.1 u)) (no_values j.parts (environment_of n t u) block u.streams other lacks))
 
 pub interval_without_value_stops : IntervalWithoutValueStops
 unfolding effect
@@ -393,5 +393,5 @@ module _ (p : Parts) (g : Generate) (after : List Block) (s : State) (first : g.
 pub arrival_without_value_has_no_start : ArrivalWithoutValueHasNoStart
 arrival_without_value_has_no_start j before after g s are arrive first lacks =
     let none = nothing j.parts j.count j.streams in
-    ap (λ bs. started none (first_arrivals j.parts 1 bs none)) are
-    ∙ ap (started none) (never_arrive j.parts g after s first lacks 1 before none arrive)
+    ap (λ bs. start_outcome none (first_arrivals j.parts 1 bs none)) are
+    ∙ ap (start_outcome none) (never_arrive j.parts g after s first lacks 1 before none arrive)

@@ -13,7 +13,7 @@ use Rattle.gw_operands.specs.declared.ends.PlusEnd.{PlusEnd}
 use Rattle.gw_operands.specs.Environment.{Environment}
 use Rattle.gw_operands.specs.Values.{Value as Comes, operand_value}
 use Rattle.gw_operands.specs.Code.{most_values, procedure_at, takes, leaves, called_in}
-use Rattle.gw_operands.specs.Meaning.{Frame, Goes, Calls, Stuck, pushed, opening, next, Derives}
+use Rattle.gw_operands.specs.Meaning.{Frame, Goes, Calls, Stuck, push_value, opening_frame, next, Derives}
 
 -- STUCK ACTIVATIONS
 
@@ -21,9 +21,9 @@ use Rattle.gw_operands.specs.Meaning.{Frame, Goes, Calls, Stuck, pushed, opening
 pub data GetsStuck (p : Parts) (env : Environment) : ℕ → Frame → Type 0 where
   at_once : {n : ℕ} {f : Frame} → next p env n f ≡ Stuck → GetsStuck p env n f
   later : {n : ℕ} {f g : Frame} → next p env n f ≡ Goes g → GetsStuck p env n g → GetsStuck p env n f
-  in_a_call : {n q : ℕ} {f g : Frame} {arguments : List ℤ} {finish : ℤ → ℤ} → next p env n f ≡ Calls q arguments finish g → GetsStuck p env q (opening (procedure_at p q) arguments) → GetsStuck p env n f
-  no_room : {n q : ℕ} {f g : Frame} {arguments : List ℤ} {finish : ℤ → ℤ} {m : ℕ} {v : ℤ} → next p env n f ≡ Calls q arguments finish g → Derives p env q (opening (procedure_at p q) arguments) m (Ok v) → pushed (finish v) g ≡ Stuck → GetsStuck p env n f
-  after_a_call : {n q : ℕ} {f g h : Frame} {arguments : List ℤ} {finish : ℤ → ℤ} {m : ℕ} {v : ℤ} → next p env n f ≡ Calls q arguments finish g → Derives p env q (opening (procedure_at p q) arguments) m (Ok v) → pushed (finish v) g ≡ Goes h → GetsStuck p env n h → GetsStuck p env n f
+  in_a_call : {n q : ℕ} {f g : Frame} {arguments : List ℤ} {finish : ℤ → ℤ} → next p env n f ≡ Calls q arguments finish g → GetsStuck p env q (opening_frame (procedure_at p q) arguments) → GetsStuck p env n f
+  no_room : {n q : ℕ} {f g : Frame} {arguments : List ℤ} {finish : ℤ → ℤ} {m : ℕ} {v : ℤ} → next p env n f ≡ Calls q arguments finish g → Derives p env q (opening_frame (procedure_at p q) arguments) m (Ok v) → push_value (finish v) g ≡ Stuck → GetsStuck p env n f
+  after_a_call : {n q : ℕ} {f g h : Frame} {arguments : List ℤ} {finish : ℤ → ℤ} {m : ℕ} {v : ℤ} → next p env n f ≡ Calls q arguments finish g → Derives p env q (opening_frame (procedure_at p q) arguments) m (Ok v) → push_value (finish v) g ≡ Goes h → GetsStuck p env n h → GetsStuck p env n f
 
 -- the instruction that an activation of the procedure n comes to
 abbrev pub ComesTo : Parts → ℕ → Frame → Instruction → Type 0
@@ -45,7 +45,7 @@ FullStackStops = (p : Parts) (env : Environment) (n : ℕ) (f : Frame) (i : Inst
 
 -- where the value of a call comes onto a full stack
 abbrev pub FullStackHasNoRoom : Type 0
-FullStackHasNoRoom = (f : Frame) (v : ℤ) → most_values ≤ length f.stack → pushed v f ≡ Stuck
+FullStackHasNoRoom = (f : Frame) (v : ℤ) → most_values ≤ length f.stack → push_value v f ≡ Stuck
 
 -- outside of its procedure's code
 abbrev pub JumpOutStops : Type 0
@@ -76,7 +76,7 @@ UnsetValueStops = (p : Parts) (env : Environment) (n q : ℕ) (f : Frame) (sna :
 -- a source has no value: it is a parameter that isn't set, or a procedure that gets stuck
 abbrev pub HasNone : Parts → Environment → Operand → Type 0
 HasNone p env (Parameter q) = at None env.parameters q ≡ None
-HasNone p env (Procedure q) = GetsStuck p env q (opening (procedure_at p q) [])
+HasNone p env (Procedure q) = GetsStuck p env q (opening_frame (procedure_at p q) [])
 HasNone p env source = ⊥
 
 -- so an operand has no value whose source has none

@@ -11,12 +11,12 @@ use Rattle.gw_rules.specs.Kinds.{block_at}
 use Rattle.gw_num.specs.Arithmetic.{difference_of}
 use Rattle.gw_transactions.specs.declared.Transaction.{Transaction}
 use Rattle.gw_transactions.specs.Transactions.{parameter_at, live_count}
-use Rattle.gw_entities.specs.Tabulation.{Tabulation, tabulating}
+use Rattle.gw_entities.specs.Tabulation.{Tabulation, tabulation_of}
 use Rattle.gw_step.specs.Outcome.{Gives}
 use Rattle.gw_step.specs.State.{State}
 use Rattle.gw_step.specs.Times.{moment_after}
 use Rattle.gw_step.specs.Changes.{savevalue, table}
-use Rattle.gw_step.specs.Blocks.{the_value, next_arrival, passes_test, is_so, led_by, chosen, block_after, looped, put_by, assembly_at, is_priority}
+use Rattle.gw_step.specs.Blocks.{the_value, next_arrival, passes_test, is_so, led_by, choice_of, block_after, loop_target, put_by, assembly_at, is_priority}
 
 -- no move may lead to the block of this number: it isn't there, or is a GENERATE
 abbrev pub IsNoTarget : List Block → ℕ → Type 0
@@ -34,11 +34,11 @@ goes_on_to n t (blocks.Assemble size) values s = if is_awaited t size s then Non
 goes_on_to n t (blocks.Test test) values s = Some (led_by t.next test.otherwise (passes_test test values))
 goes_on_to n t (blocks.Gate gate) values s = Some (led_by t.next gate.otherwise (is_so gate.condition gate.entity s))
 goes_on_to n t (blocks.Transfer target) values s = Some target
-goes_on_to n t (blocks.TransferByFraction f) values s = Some (chosen t.next f (the_value values))
+goes_on_to n t (blocks.TransferByFraction f) values s = Some (choice_of t.next f (the_value values))
 goes_on_to n t (blocks.TransferBoth two) values s = None
 goes_on_to n t (blocks.TransferToSubroutine c) values s = Some c.target
 goes_on_to n t (blocks.TransferByParameter q) values s = option_map block_after (parameter_at n q s.transactions)
-goes_on_to n t (blocks.Loop l) values s = option_map (λ old. looped t.next l.target (old -ℤ pos 1)) (parameter_at n l.parameter s.transactions)
+goes_on_to n t (blocks.Loop l) values s = option_map (λ old. loop_target t.next l.target (old -ℤ pos 1)) (parameter_at n l.parameter s.transactions)
 goes_on_to n t block values s = Some (t.next + 1)
 
 -- a block is one of the two to which a TRANSFER BOTH, the block of number b, leads
@@ -54,5 +54,5 @@ ComesToNoEnd p n t (blocks.Savevalue a) values s = (new : ℤ) × (put_by a.mode
 ComesToNoEnd p n t (blocks.Loop l) values s = IfSome (parameter_at n l.parameter s.transactions) (λ old. difference_of old (pos 1) ≡ Ok (old -ℤ pos 1))
 ComesToNoEnd p n t (blocks.Priority a) values s = is_priority (the_value values) ≡ true
 ComesToNoEnd p n t (blocks.Split c) values s = live_count s.transactions + c.copies ≤ 65536
-ComesToNoEnd p n t (blocks.Tabulate e) values s = (new : Tabulation) × (tabulating (the_value values) (table e s) ≡ Ok new)
+ComesToNoEnd p n t (blocks.Tabulate e) values s = (new : Tabulation) × (tabulation_of (the_value values) (table e s) ≡ Ok new)
 ComesToNoEnd p n t block values s = Unit {0}

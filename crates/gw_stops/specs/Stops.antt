@@ -9,7 +9,7 @@ use Rattle.gw_blocks.specs.declared.parts.Split.{Split}
 use Rattle.gw_blocks.specs.declared.parts.Unlink.{Unlink}
 use Rattle.gw_blocks.specs.declared.parts.Block.{Block}
 use Rattle.gw_blocks.specs.declared.parts.Block.TheVariants as blocks
-use Rattle.gw_operands.specs.Sources.{evaluated}
+use Rattle.gw_operands.specs.Sources.{evaluation_operands}
 use Rattle.gw_operands.specs.Values.{Value, operand_value, operands}
 use Rattle.gw_rules.specs.Kinds.{block_at, is_generate}
 use Rattle.gw_rules.specs.Exits.{leads_to, goes_or_falls}
@@ -119,7 +119,7 @@ abbrev pub OperandWithoutValueStops : Type 0
 OperandWithoutValueStops =
     (j : Job) (s u : State) (n : ℕ) (t : Transaction) (block : Block) → Tries j s u n t block
     → is_generate (Some block) ≡ false
-    → OneLacksValue j.parts (environment_of n t u) (evaluated j.parts.entities block) u.streams → IsStuck j s
+    → OneLacksValue j.parts (environment_of n t u) (evaluation_operands j.parts.entities block) u.streams → IsStuck j s
 
 -- LOOP by a parameter that isn't set
 abbrev pub LoopByUnsetStops : Type 0

@@ -5,7 +5,7 @@ use Rattle.gw_object.specs.declared.parts.Parts.{Parts}
 use Rattle.gw_report.specs.Figures.{block_at}
 use Rattle.gw_figures.specs.Windows.{Span, rise}
 use Rattle.gw_figures.specs.Values.{blocks_values, values_of, entities_values}
-use Rattle.gw_figures.specs.Trends.{value_at, joined}
+use Rattle.gw_figures.specs.Trends.{value_at, value_at_place}
 use Rattle.gw_study.specs.Streams.{EntriesStandBehind}
 
 -- the entries of the block at a place
@@ -28,6 +28,6 @@ behind_end a b c d xs k = let four : 4 + k ≡ suc (suc (suc (suc k))) = omega a
 
 pub entries_stand_behind : EntriesStandBehind
 entries_stand_behind parts w i below =
-    ap joined (behind_end _ _ _ _ (blocks_values w 0 (length parts.blocks) ++ entities_values w 0 parts.entities) (2 * i)
+    ap value_at_place (behind_end _ _ _ _ (blocks_values w 0 (length parts.blocks) ++ entities_values w 0 parts.entities) (2 * i)
     ∙ in_blocks w 0 (length parts.blocks) i (entities_values w 0 parts.entities) below
     ∙ ap (λ j. Some (entries w j)) (omega arith))

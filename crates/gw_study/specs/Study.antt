@@ -4,7 +4,7 @@ use Rattle.gw_object.specs.declared.fault.Fault.{Fault}
 use Rattle.gw_step.specs.Job.{Job}
 use Rattle.gw_scan.specs.Making.{job_from}
 use Rattle.gw_scan.specs.declared.spec.StartFault.TheVariants.{Count}
-use Rattle.gw_answers.specs.Status.{ended, refused}
+use Rattle.gw_answers.specs.Status.{end_status, refusal_status}
 use Rattle.gw_answers.specs.Refusal.{refusal_line, start_refusal}
 use Rattle.gw_model_jobs.specs.ModelJobs.{IsJobOf, IsRefusalOf}
 use Rattle.gw_figures.specs.Labels.{Label, labels, labels_of}
@@ -17,8 +17,8 @@ use Rattle.gw_study.specs.Streams.{streams_text}
 use Rattle.gw_study.specs.Table.{IsTable}
 
 -- the job of a text's object with this count
-abbrev pub counted : Job → ℕ → Job
-counted j count = job_from j.parts [] count j.budget
+abbrev pub with_count : Job → ℕ → Job
+with_count j count = job_from j.parts [] count j.budget
 
 -- so many runs of a job's object, in order, with the figures of its model
 pub record AreResultsOf (j : Job) (request : StudyRequest) (results : Results) : Type 0 where
@@ -53,7 +53,7 @@ IsTold j request text =
 
 -- the job of a text with this count
 abbrev pub IsCountedJob : List ℕ → ℕ → Job → Type 0
-IsCountedJob bytes count job = (j : Job) × IsJobOf bytes j × (job ≡ counted j count)
+IsCountedJob bytes count job = (j : Job) × IsJobOf bytes j × (job ≡ with_count j count)
 
 -- a count is refused where it is above 2^40
 abbrev pub IsCountRefusal : ℕ → Fault → Type 0
@@ -66,5 +66,5 @@ IsStudyRefusal bytes count fault = IsRefusalOf bytes fault ⊎ IsCountRefusal co
 -- what is told of a text: the table of its job's runs, or why there is none
 abbrev pub IsStudy : List ℕ → StudyRequest → List ℕ → ℕ → Type 0
 IsStudy bytes request text status =
-    ((status ≡ ended) × ((j : Job) × IsCountedJob bytes request.count j × IsTold j request text))
-    ⊎ ((status ≡ refused) × ((fault : Fault) × IsStudyRefusal bytes request.count fault × (text ≡ refusal_line fault)))
+    ((status ≡ end_status) × ((j : Job) × IsCountedJob bytes request.count j × IsTold j request text))
+    ⊎ ((status ≡ refusal_status) × ((fault : Fault) × IsStudyRefusal bytes request.count fault × (text ≡ refusal_line fault)))

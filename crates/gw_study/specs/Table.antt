@@ -17,7 +17,7 @@ use Rattle.gw_figures.specs.declared.run.Run.{Run}
 use Rattle.gw_study.specs.declared.request.StudyRequest.{StudyRequest}
 use Rattle.gw_study.specs.declared.telling.Results.{Results}
 use Rattle.gw_study.specs.Text.{row_line, head_line, thousandths_of, thousandths_text}
-pub use Rattle.gw_figures.specs.Trends.{joined, value_at}
+pub use Rattle.gw_figures.specs.Trends.{value_at_place, value_at}
 
 -- ENDS
 

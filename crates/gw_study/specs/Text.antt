@@ -25,12 +25,12 @@ abbrev pub thousandths_text : ℤ → List ℕ
 thousandths_text z = sign_text z ++ amount_text (unsigned_abs z)
 
 -- millionths in thousandths, rounded to the nearest
-abbrev pub rounded : ℕ → ℕ
-rounded n = (n + 500) / 1000
+abbrev pub round_to_thousandths : ℕ → ℕ
+round_to_thousandths n = (n + 500) / 1000
 
 abbrev pub thousandths_of : ℤ → ℤ
-thousandths_of (pos n) = pos (rounded n)
-thousandths_of (negsuc n) = neg_ℤ (pos (rounded (suc n)))
+thousandths_of (pos n) = pos (round_to_thousandths n)
+thousandths_of (negsuc n) = neg_ℤ (pos (round_to_thousandths (suc n)))
 
 -- how far millionths lie from the thousandths that are told of them
 abbrev pub distance : ℤ → ℕ

@@ -2,9 +2,9 @@
 
 ghost use Rattle.std.specs.Prelude.{◌≡◌, ◌≤◌, ◌^◌, vec_len, IfOk};
 ghost use Rattle.gw_model_jobs.specs.ModelJobs.{IsJobOf, Finds};
-ghost use Rattle.gw_answers.specs.Status.{ended};
+ghost use Rattle.gw_answers.specs.Status.{end_status};
 ghost use Rattle.gw_study.specs.Requests.{MayBeStudied};
-ghost use Rattle.gw_study.specs.Study.{counted as counted_of, AreResultsBetween, AreResultsOf, IsTextOfResults, IsCountedJob, IsCountRefusal, IsStudyRefusal, IsStudy, IsTold};
+ghost use Rattle.gw_study.specs.Study.{with_count as counted_of, AreResultsBetween, AreResultsOf, IsTextOfResults, IsCountedJob, IsCountRefusal, IsStudyRefusal, IsStudy, IsTold};
 
 use crate::request::StudyRequest;
 use crate::runs::{Setup, runs_in_order, runs_of};
@@ -127,7 +127,7 @@ fn studied<T: Threads + Sync + Eprint>(
 ) -> Result<Answer, Memory>
     requires request { MayBeStudied request.now }
     requires budget { spec.now.budget ≡ BUDGET }
-    ensures { IfOk result (λ a. (a.status ≡ ended) × IsTold spec.now request.now a.text.items) }
+    ensures { IfOk result (λ a. (a.status ≡ end_status) × IsTold spec.now request.now a.text.items) }
 {
     let results = results(rt, alloc, spec, request)?;
     Ok(Answer {

@@ -8,7 +8,7 @@ use Rattle.std.specs.Str.{bytes_eq}
 use Rattle.std.proofs.lemmas.List.{append_assoc}
 use Rattle.std.proofs.lemmas.List.Elements.{Contains-append_left, Contains-append_right}
 use Rattle.std.proofs.lemmas.Slice.Eq.{bytes_eq-Decides}
-use Rattle.gw_summary.specs.Adding.{adding, has}
+use Rattle.gw_summary.specs.Adding.{addition_to, has}
 use Rattle.gw_summary.specs.Keeping.{AddsLine, OneMore, lines_at, lines_of}
 use Rattle.gw_summary.specs.Telling.{Line}
 use Rattle.gw_summary.specs.declared.point.Adding.{Adding}
@@ -46,7 +46,7 @@ line_set (Some x ∷ xs) (suc n) line h free =
     (x.items ∷ more.0, more.1, ap (λ ls. x.items ∷ ls) more.2, ap (λ ls. x.items ∷ ls) more.3)
 
 -- where a line is new, none was there
-pub was_free : (place : Option Line) (line : List ℕ) → adding place line ≡ New → has place ≡ false
+pub was_free : (place : Option Line) (line : List ℕ) → addition_to place line ≡ New → has place ≡ false
 was_free None line new = refl
 was_free (Some None) line new = refl
 was_free (Some (Some known)) line new = by_test (bytes_eq known.items line) new
@@ -71,7 +71,7 @@ behind x line xs Again other h = (Contains-append_right (x ∷ []) xs line h.0, 
 behind x line xs Unlike other h = refl
 
 -- where it isn't new, the others are as they were, and it is one of them if it comes again
-pub kept_as_is : (xs : List Line) (n : ℕ) (line : List ℕ) (a : Adding) → a ≡ adding (slice_get xs n) line → (a ≢ New)
+pub kept_as_is : (xs : List Line) (n : ℕ) (line : List ℕ) (a : Adding) → a ≡ addition_to (slice_get xs n) line → (a ≢ New)
     → AddsLine a line (lines_at xs) (lines_at xs)
 kept_as_is [] n line a is other = absurd (other is)
 kept_as_is (None ∷ xs) zero line a is other = absurd (other is)

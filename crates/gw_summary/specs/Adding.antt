@@ -10,14 +10,14 @@ abbrev pub Place : Type 0
 Place = Option (Option (Vec ℕ Global))
 
 -- a run that has no line is new; a line that is there comes again; another line of the run is unlike
-abbrev pub adding : Place → List ℕ → Adding
-adding None line = New
-adding (Some None) line = New
-adding (Some (Some known)) line = if bytes_eq known.items line then Again else Unlike
+abbrev pub addition_to : Place → List ℕ → Adding
+addition_to None line = New
+addition_to (Some None) line = New
+addition_to (Some (Some known)) line = if bytes_eq known.items line then Again else Unlike
 
 -- what a line of the run of a number does to those that are there
 abbrev pub adding_at : List (Option (Vec ℕ Global)) → ℕ → List ℕ → Adding
-adding_at lines number line = adding (slice_get lines number) line
+adding_at lines number line = addition_to (slice_get lines number) line
 
 -- a run has a line
 abbrev pub has : Place → Bool

@@ -2,7 +2,7 @@
 use Rattle.std.specs.Prelude.{◌≡◌, ◌⊎◌, ◌≤◌, ◌<◌, ℕ, ◌+◌, ◌-◌, ◌/◌, ◌%◌, nat_le, List, [], ◌∷◌, length, vec_len, slice_get, Option, None, Some, Bool, Vec, Result, IfOk, OnOk}
 use Rattle.std.specs.Global.{Global}
 use Rattle.std.specs.List.{All}
-use Rattle.gw_answers.specs.Status.{ended, refused}
+use Rattle.gw_answers.specs.Status.{end_status, refusal_status}
 use Rattle.gw_figures.specs.Labels.{Label, labels}
 use Rattle.gw_figures.specs.declared.figure.Figure.{Figure}
 use Rattle.gw_figures.specs.declared.run.Run.{Run}
@@ -163,14 +163,14 @@ HasOnlyRows rows = (rows.waiting.items ≡ []) × (rows.refused ≡ None)
 -- what is answered: that, of rows that are complete, or a refusal
 abbrev pub IsSummary : Rows → SummaryRequest → List ℕ → ℕ → Type 0
 IsSummary rows request text status =
-    ((status ≡ ended) × HasOnlyRows rows
+    ((status ≡ end_status) × HasOnlyRows rows
     × ((study : Study) × (rows.study ≡ Some study) × AreComplete rows.points.items request.seeds × TellsRows rows study request text))
-    ⊎ (status ≡ refused)
+    ⊎ (status ≡ refusal_status)
 
 -- what is answered about bytes: a summary of rows that keep just their lines that aren't headers, or a refusal
 abbrev pub IsSummaryOf : List ℕ → SummaryRequest → List ℕ → ℕ → Type 0
 IsSummaryOf bytes request text status =
-    ((rows : Rows) × AreRowsOf bytes rows.points.items × IsSummary rows request text status) ⊎ (status ≡ refused)
+    ((rows : Rows) × AreRowsOf bytes rows.points.items × IsSummary rows request text status) ⊎ (status ≡ refusal_status)
 
 -- the same about all bytes that may have been read into pieces
 abbrev pub IsSummaryOfPieces : Pieces → SummaryRequest → List ℕ → ℕ → Type 0

@@ -7,7 +7,7 @@ ghost use Rattle.gw_rows.specs.Reading.{IsHeaderOf};
 ghost use Rattle.gw_rows.specs.Rows.{source_of};
 ghost use Rattle.gw_summary.specs.Telling as model;
 ghost use Rattle.gw_answers.specs.Requests.{AnswersAs};
-ghost use Rattle.gw_answers.specs.Status.{refused as refused_status};
+ghost use Rattle.gw_answers.specs.Status.{refusal_status};
 
 use crate::fault::{RowFault, refusal_of};
 use crate::pieces::Pieces;
@@ -363,7 +363,7 @@ fn told(
 
 /// The answer that refuses a line.
 fn refusal(alloc: Global, line: u64, point: &[u8], fault: RowFault) -> Result<Answer, Memory>
-    ensures { IfOk result (λ a. a.status ≡ refused_status) }
+    ensures { IfOk result (λ a. a.status ≡ refusal_status) }
 {
     Ok(Answer {
         text: refusal_of(alloc, line, point, fault)?,
@@ -394,7 +394,7 @@ fn summary_of(
 
 /// The refusal that a row told.
 fn refused_by(alloc: Global, refused: &Refused) -> Result<Answer, Memory>
-    ensures { IfOk result (λ a. a.status ≡ refused_status) }
+    ensures { IfOk result (λ a. a.status ≡ refusal_status) }
 {
     let mut text = Vec::new(alloc);
     text.extend_from_slice(&refused.text)?;

@@ -17,18 +17,18 @@ lower_of known None = known
 lower_of known (Some refusal) = Some (lower known refusal)
 
 -- what was read, or something else in its place where it was refused
-abbrev pub kept : {A : Type 0} → Result A Stop → A → Result A AllocError
-kept (Ok value) otherwise = Ok value
-kept (Err (Refused refusal)) otherwise = Ok otherwise
-kept (Err Memory) otherwise = Err alloc_error
+abbrev pub or_otherwise : {A : Type 0} → Result A Stop → A → Result A AllocError
+or_otherwise (Ok value) otherwise = Ok value
+or_otherwise (Err (Refused refusal)) otherwise = Ok otherwise
+or_otherwise (Err Memory) otherwise = Err alloc_error
 
 -- the lowest refusal, with the one for which something wasn't read
-abbrev pub noted : {A : Type 0} → Option Refusal → Result A Stop → Option Refusal
-noted known (Ok value) = known
-noted known (Err (Refused refusal)) = Some (lower known refusal)
-noted known (Err Memory) = known
+abbrev pub first_refusal : {A : Type 0} → Option Refusal → Result A Stop → Option Refusal
+first_refusal known (Ok value) = known
+first_refusal known (Err (Refused refusal)) = Some (lower known refusal)
+first_refusal known (Err Memory) = known
 
 -- nothing is wrong, or the line is refused
-abbrev pub checked : Option Refusal → Result (Unit {0}) Stop
-checked None = Ok tt
-checked (Some refusal) = Err (Refused refusal)
+abbrev pub check_of : Option Refusal → Result (Unit {0}) Stop
+check_of None = Ok tt
+check_of (Some refusal) = Err (Refused refusal)

@@ -2,7 +2,7 @@
 
 ghost use Rattle.std.specs.Prelude.{◌≡◌, ◌≤◌, Some};
 ghost use Rattle.gw_text_tokens.specs.Codes.{length_fault, order_fault, code_of};
-ghost use Rattle.gw_text_tokens.specs.Faults.{lower, lower_of, kept, noted, checked};
+ghost use Rattle.gw_text_tokens.specs.Faults.{lower, lower_of, or_otherwise, first_refusal, check_of};
 
 use crate::codes;
 use std::alloc::{AllocError, AllocFailed};
@@ -111,7 +111,7 @@ impl Lowest {
     pub fn keep<T>(&mut self, outcome: Result<T, Stop>, otherwise: T) -> Result<T, AllocError>
     where
         T: Drop,
-        ensures { (result ≡ kept outcome otherwise) × (self.new.found ≡ noted self.old.found outcome) }
+        ensures { (result ≡ or_otherwise outcome otherwise) × (self.new.found ≡ first_refusal self.old.found outcome) }
     {
         match outcome {
             Ok(value) => Ok(value),
@@ -135,7 +135,7 @@ impl Lowest {
 
     /// `Err` with the refusal so far, if there is one.
     pub fn check(self) -> Result<(), Stop>
-        ensures { result ≡ checked self.found }
+        ensures { result ≡ check_of self.found }
     {
         match self.found {
             Some(refusal) => Err(Stop::Refused(refusal)),

@@ -4,7 +4,7 @@ ghost use Rattle.std.specs.Prelude.{◌≡◌, ◌≢◌, ◌≤◌, ◌-◌, �
 ghost use Rattle.gw_text_tokens.specs.Heads.{name_length, digits_length};
 ghost use Rattle.gw_text_tokens.specs.Tokens.{IsNoLabel, IsNumberAt, IsTokenAt};
 ghost use Rattle.gw_text_tokens.specs.Lines.{after_blanks};
-ghost use Rattle.gw_text_tokens.specs.Numbers.{spelled};
+ghost use Rattle.gw_text_tokens.specs.Numbers.{spelled_number};
 
 use crate::characters::{after_blanks, is_in_name, is_spelled};
 use gw_num::Binary;
@@ -202,7 +202,7 @@ fn decimal_after<'a>(whole: Option<u64>, left: &'a [u8], rest: &'a [u8]) -> (Tok
 
 /// The number that digits spell; one past 64 bits is the greatest of them.
 pub fn value_of(digits: &[u8]) -> u64
-    ensures { result ≡ min (2 ^ 64 - 1) (spelled 0 digits.now) }
+    ensures { result ≡ min (2 ^ 64 - 1) (spelled_number 0 digits.now) }
 {
     let mut value: u64 = 0;
     for digit in digits {

@@ -43,8 +43,8 @@ abbrev pub entered_of : Option Choice → Candidate → State → Option ℕ
 entered_of None next after = entered_since next after
 entered_of (Some choice) next after = entered_from next.block choice after
 
-abbrev pub entered : Sight → State → Option ℕ
-entered before after = entered_of before.choice before.next after
+abbrev pub entered_block : Sight → State → Option ℕ
+entered_block before after = entered_of before.choice before.next after
 
 -- somebody was active: it entered a block; or it is still active; or it rests
 abbrev pub with_entry : Option ℕ → State → Happening
@@ -52,7 +52,7 @@ with_entry (Some b) after = Entry b
 with_entry None after = if is_some after.lists.active then Stop else Refusal
 
 abbrev pub with_active : Sight → State → Happening
-with_active before after = with_entry (entered before after) after
+with_active before after = with_entry (entered_block before after) after
 
 -- the same, by who was active
 abbrev pub happening_by : Option ℕ → Sight → State → Happening
@@ -76,6 +76,6 @@ abbrev pub let_in : Sight → State → ℕ
 let_in before after = before.delayed - delayed_in after
 
 -- by how many members the retry list is shorter, who was refused just now left out
-abbrev pub woken : Sight → State → Happening → ℕ
-woken before after what =
+abbrev pub woken_members : Sight → State → Happening → ℕ
+woken_members before after what =
     before.retrying - (length after.lists.retry - from_bool (is_refusal what && not (is_delayed before after)))

@@ -21,7 +21,7 @@ use Rattle.gw_trace.specs.declared.sight.Sight.{Sight}
 use Rattle.gw_trace.specs.declared.happening.Happening.{Happening}
 use Rattle.gw_trace.specs.declared.happening.Happening.TheVariants.{Activation, ClockMove, Entry, Refusal, Stop}
 use Rattle.gw_trace.specs.Columns.{column, number_or_dash}
-use Rattle.gw_trace.specs.Happenings.{is_delayed, let_in, what_happened, woken}
+use Rattle.gw_trace.specs.Happenings.{is_delayed, let_in, what_happened, woken_members}
 use Rattle.gw_trace.specs.Sights.{next_block}
 
 -- BLOCKS
@@ -187,7 +187,7 @@ columns before after what = column 12 (signed_decimal after.clock) ++ subject be
 -- what happened, whom it woke, and the end of the run, if it ended
 unfoldable pub words : Parts → Sight → State → Happening → List ℕ
 words p before after what =
-    happening_text p before after what ++ woken_text (woken before after what) ++ end_text after.ended ++ codes "\n"
+    happening_text p before after what ++ woken_text (woken_members before after what) ++ end_text after.ended ++ codes "\n"
 
 -- the line of a step
 unfoldable pub step_line : Parts → Sight → State → List ℕ

@@ -4,7 +4,7 @@ use Rattle.gw_object.specs.declared.parts.Parts.{Parts}
 use Rattle.gw_step.specs.State.{State}
 use Rattle.gw_step.specs.Job.{Job, Progress, Alone, after, start_of}
 use Rattle.gw_answers.specs.declared.answer.Answer.{Answer}
-use Rattle.gw_answers.specs.Status.{ended}
+use Rattle.gw_answers.specs.Status.{end_status}
 use Rattle.gw_model_jobs.specs.Running.{IsOver}
 use Rattle.gw_trace.specs.declared.sight.Sight.{Sight}
 use Rattle.gw_trace.specs.declared.tracing.Window.{Window}
@@ -59,4 +59,4 @@ pub record IsTrace (from to : ℤ) (j : Job) (text : List ℕ) : Type 0 where
 
 -- it answers, with the status of an end
 abbrev pub AnswersTrace : Window → Job → Answer → Type 0
-AnswersTrace window j a = (a.status ≡ ended) × IsTrace window.from.0 window.to.0 j a.text.items
+AnswersTrace window j a = (a.status ≡ end_status) × IsTrace window.from.0 window.to.0 j a.text.items

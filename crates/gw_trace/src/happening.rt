@@ -74,7 +74,7 @@ fn entered_from(both: u16, before: Choice, sim: &Sim) -> Option<u16>
 
 /// The number of the block that the active transaction entered, if it entered one.
 fn entered(before: &Sight, sim: &Sim) -> Option<u16>
-    ensures { result ≡ model.entered before.now sim.now.state }
+    ensures { result ≡ model.entered_block before.now sim.now.state }
 {
     match before.choice {
         None => entered_since(before.next, sim),
@@ -124,7 +124,7 @@ pub(crate) fn let_in(before: &Sight, sim: &Sim) -> usize
 
 /// How many the step woke of those who were on the retry list.
 pub(crate) fn woken(before: &Sight, sim: &Sim, happening: Happening) -> usize
-    ensures { result ≡ model.woken before.now sim.now.state happening }
+    ensures { result ≡ model.woken_members before.now sim.now.state happening }
 {
     let joined = matches!(happening, Happening::Refusal) && !is_delayed(before, sim);
     let left = sim.retrying().saturating_sub(usize::from(joined));

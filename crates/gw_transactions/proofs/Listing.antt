@@ -6,7 +6,7 @@ use Rattle.slab.specs.Slab.{Slab, entries_from}
 use Rattle.gw_num.specs.Table.{at, put}
 use Rattle.gw_transactions.specs.declared.Kept.{Kept}
 use Rattle.gw_transactions.specs.Parameters.{Numbered}
-use Rattle.gw_transactions.specs.Transactions.{listed_as, listed}
+use Rattle.gw_transactions.specs.Transactions.{listed_as, listed_transactions}
 use Rattle.gw_transactions.specs.Slots.{live_as, listed_in, by_number, AreNumbered}
 use Rattle.gw_transactions.proofs.Slots.{numbered_tail, free_tail, at-by_number_free}
 
@@ -27,7 +27,7 @@ module _ {Y Z : Type 0} (h : Y → Z) where
       IsPermutation-trans _ _ _ (IsPermutation-cons (h x) _ _ (listed-put xs n y free)) (IsPermutation-insert (h y ∷ others) 1 (h x))
 
 -- the keys of a slab's entries don't matter
-pub listed_slots : (beside : Slab Numbered) (next place key : ℕ) (slots : List (Option (ℕ × Kept))) → AreNumbered slots next → IsPermutation (listed (by_number (λ place kept. live_as beside kept) next place slots)) (map (listed_in beside) (entries_from key slots))
+pub listed_slots : (beside : Slab Numbered) (next place key : ℕ) (slots : List (Option (ℕ × Kept))) → AreNumbered slots next → IsPermutation (listed_transactions (by_number (λ place kept. live_as beside kept) next place slots)) (map (listed_in beside) (entries_from key slots))
 listed_slots beside next place key [] num = subst (λ all. IsPermutation all []) (sym (none_listed listed_as next)) (IsPermutation-refl [])
 listed_slots beside next place key (None ∷ slots) num = listed_slots beside next (suc place) _ slots (numbered_tail None slots next num)
 listed_slots beside next place key (Some slot ∷ slots) num =

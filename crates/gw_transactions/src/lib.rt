@@ -86,7 +86,7 @@ impl Model for Transactions {
 }
 
 impl Transactions {
-    ghost use Rattle.gw_transactions.specs.Transactions.{Holds, KeepsHandles, KeepsOtherHandles, KeepsRest, IsSound, with_newcomer, with_place, attributes_at, put_attributes, StepsTo, kept_copies, chain_of, put_chain, kept_of, put_parameter, listed, live_count, here_count};
+    ghost use Rattle.gw_transactions.specs.Transactions.{Holds, KeepsHandles, KeepsOtherHandles, KeepsRest, IsSound, with_newcomer, with_place, attributes_at, put_attributes, StepsTo, kept_copies, chain_of, put_chain, kept_of, put_parameter, listed_transactions, live_count, here_count};
 
     /// None yet: the first number is 1. Each will have as many parameters. It takes memory for the counts of `here`, and none
     /// for transactions.
@@ -149,7 +149,7 @@ impl Transactions {
     /// The transactions that there are now, in no particular order: the attributes of each, its user chain and its
     /// parameters.
     pub fn iter(&self) -> Iter<'_>
-        ensures listed { IsPermutation (listed self.now.txs) result }
+        ensures listed { IsPermutation (listed_transactions self.now.txs) result }
         ensures len { length result ≡ live_count self.now.txs }
     {
         Iter {

@@ -26,9 +26,9 @@ impl Model for Parameters {
 
     ghost Value = { Numbered };
 
-    ghost use Rattle.gw_transactions.specs.Parameters.{shown, AreBare};
+    ghost use Rattle.gw_transactions.specs.Parameters.{numbered_slots, AreBare};
 
-    ghost view = { λ p. shown p.mask p.slots.items };
+    ghost view = { λ p. numbered_slots p.mask p.slots.items };
 
     ghost invariant = { λ p. AreBare p.mask p.slots.items };
 }

@@ -16,7 +16,7 @@ use Rattle.gw_least_weights.specs.declared.rules.Rule.{Rule}
 use Rattle.gw_least_weights.specs.Rules.{nothing, once}
 use Rattle.gw_least_weights.specs.Least.{Gathers, ComesBehind, IsSystem}
 use Rattle.gw_weighing.specs.Certificates.{IsCounted}
-use Rattle.gw_weighing.specs.Layout.{layout_of, counted, places, of_chain, of_row, of_block}
+use Rattle.gw_weighing.specs.Layout.{layout_of, place_count, places, of_chain, of_row, of_block}
 use Rattle.gw_weighing.specs.Rules.{state_at, block_rule, chain_rule, rules_of_block, gathering_rule, rules_of_row, rules_of_blocks, rules_of_rows, rules_of}
 use Rattle.gw_rules.proofs.EachBlock.{All-front, All-back}
 use Rattle.gw_weighing.proofs.Placed.{All-there, there-All, all_from_first, each_from_first}
@@ -113,7 +113,7 @@ module _ (p : Parts) where
     chain_at_place e h = chosen (chain_place p.entities e) (chains_in p.entities) (length p.blocks + chain_place p.entities e) (places (layout_of p)) (chain_within e h)
 
     -- a rule at a user chain stands behind the blocks, and before the return rows
-    chain_rule_at : (i : ℕ) (block : Block) (r : Rule) → chain_rule (layout_of p) p i block ≡ Some r → (length p.blocks ≤ r.at) × (r.at < counted (layout_of p))
+    chain_rule_at : (i : ℕ) (block : Block) (r : Rule) → chain_rule (layout_of p) p i block ≡ Some r → (length p.blocks ≤ r.at) × (r.at < place_count (layout_of p))
     chain_rule_at i (blocks.Unlink u) r is =
         let here = there_if (is_some (state_at p i) && is_some (chain_row p u.chain)) (send u.chain u.target) r is in
         let two = and_parts (is_some (state_at p i)) (is_some (chain_row p u.chain)) here.0 in
@@ -128,7 +128,7 @@ module _ (p : Parts) where
       row = λ r d within j e there lt. omega (arith, within);
     }
 
-    gathers : OfEach (λ (r : Rule). counted (layout_of p) ≤ r.at → Gathers (counted (layout_of p)) r)
+    gathers : OfEach (λ (r : Rule). place_count (layout_of p) ≤ r.at → Gathers (place_count (layout_of p)) r)
     gathers = record {
       block = λ i d within far. absurd (omega (arith, (block_at_place i (get_or p.blocks i d) (state_at p i)).0, within, far));
       chain = λ i d within r is far. absurd (omega (arith, (chain_rule_at i (get_or p.blocks i d) r is).1, far));
@@ -142,7 +142,7 @@ module _ (p : Parts) where
       row = λ r d within j e there lt here. absurd (omega (arith, here, inside));
     }
 
-    stands_behind : OfEach (λ (r : Rule). counted (layout_of p) ≤ r.at → ComesBehind (rules_of (layout_of p) p) r)
+    stands_behind : OfEach (λ (r : Rule). place_count (layout_of p) ≤ r.at → ComesBehind (rules_of (layout_of p) p) r)
     stands_behind = record {
       block = λ i d within far. absurd (omega (arith, (block_at_place i (get_or p.blocks i d) (state_at p i)).0, within, far));
       chain = λ i d within r is far. absurd (omega (arith, (chain_rule_at i (get_or p.blocks i d) r is).1, far));
@@ -150,9 +150,9 @@ module _ (p : Parts) where
     }
 
     -- the rules are a system: those of return rows gather
-    pub is_system : IsSystem (rules_of (layout_of p) p) (counted (layout_of p)) (places (layout_of p))
+    pub is_system : IsSystem (rules_of (layout_of p) p) (place_count (layout_of p)) (places (layout_of p))
     is_system = record {
       within = all_rules (λ (r : Rule). r.at < places (layout_of p)) stands_within;
-      gathers = all_rules (λ (r : Rule). counted (layout_of p) ≤ r.at → Gathers (counted (layout_of p)) r) gathers;
-      behind = all_rules (λ (r : Rule). counted (layout_of p) ≤ r.at → ComesBehind (rules_of (layout_of p) p) r) stands_behind;
+      gathers = all_rules (λ (r : Rule). place_count (layout_of p) ≤ r.at → Gathers (place_count (layout_of p)) r) gathers;
+      behind = all_rules (λ (r : Rule). place_count (layout_of p) ≤ r.at → ComesBehind (rules_of (layout_of p) p) r) stands_behind;
     }

@@ -3,7 +3,7 @@ use Rattle.std.proofs.Common.{◌≡◌, ℕ, ◌*◌, List, [], ◌∷◌, ◌+
 use Rattle.std.specs.List.{flat_map, zip}
 use Rattle.std.specs.Int.{w32, to_be_bytes}
 use Rattle.gw_object.specs.declared.parts.Parts.{Parts}
-use Rattle.gw_fields.specs.Fields.{plain, listed}
+use Rattle.gw_fields.specs.Fields.{plain, list_of}
 use Rattle.gw_code.specs.Grammar.{procedure}
 use Rattle.gw_blocks.specs.Grammar.{block}
 use Rattle.gw_object.specs.Entities.{entity, chains_in}
@@ -54,9 +54,9 @@ longer (front ∷ fronts) xs ys same = together front (before fronts xs) front (
 -- the spelling of what comes before weights
 abbrev fronts : Parts → List (List ℕ)
 fronts p =
-    head.spell (tt, p.version) ∷ (listed 0 most_seeds seed).spell p.seeds ∷ start_count.spell p.count
-    ∷ (listed 0 most_entities entity).spell p.entities ∷ (listed 0 most_procedures (plain procedure)).spell p.procedures
-    ∷ (listed 0 most_blocks (plain (block p.version))).spell p.blocks ∷ (listed 0 most_return_rows (plain return_row)).spell p.returns
+    head.spell (tt, p.version) ∷ (list_of 0 most_seeds seed).spell p.seeds ∷ start_count.spell p.count
+    ∷ (list_of 0 most_entities entity).spell p.entities ∷ (list_of 0 most_procedures (plain procedure)).spell p.procedures
+    ∷ (list_of 0 most_blocks (plain (block p.version))).spell p.blocks ∷ (list_of 0 most_return_rows (plain return_row)).spell p.returns
     ∷ (rows (length p.blocks)).spell p.states ∷ (rows (chains_in p.entities)).spell p.chain_states ∷ []
 
 -- and of weights, those of blocks with the slopes

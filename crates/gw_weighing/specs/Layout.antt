@@ -11,12 +11,12 @@ abbrev pub layout_of : Parts → Layout
 layout_of p = record { blocks = length p.blocks; chains = chains_in p.entities; rows = length p.returns }
 
 -- the places of blocks and user chains
-abbrev pub counted : Layout → ℕ
-counted y = y.blocks + y.chains
+abbrev pub place_count : Layout → ℕ
+place_count y = y.blocks + y.chains
 
 -- all places
 abbrev pub places : Layout → ℕ
-places y = counted y + y.rows
+places y = place_count y + y.rows
 
 -- the place of the block of a number, from 1; behind all, where there is none
 abbrev pub of_block : Layout → ℕ → ℕ
@@ -29,4 +29,4 @@ of_chain y es e = if nat_lt (chain_place es e) y.chains then y.blocks + chain_pl
 
 -- the place of the return row of a number
 abbrev pub of_row : Layout → ℕ → ℕ
-of_row y r = counted y + r
+of_row y r = place_count y + r

@@ -34,7 +34,7 @@ impl Layout {
 
     /// How many places of blocks and of user chains there are.
     pub(crate) fn counted(self) -> usize
-        ensures { result ≡ model.counted self }
+        ensures { result ≡ model.place_count self }
     {
         self.blocks as usize + self.chains as usize
     }

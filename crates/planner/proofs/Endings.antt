@@ -7,7 +7,7 @@ use Rattle.gw_object.specs.declared.fault.Fault.{Fault}
 use Rattle.gw_object.specs.declared.parts.Parts.{Parts}
 use Rattle.gw_step.specs.Job.{Job}
 use Rattle.gw_answers.specs.Refusal.{refusal_line}
-use Rattle.gw_answers.specs.Status.{ended, refused}
+use Rattle.gw_answers.specs.Status.{end_status, refusal_status}
 use Rattle.gw_answers.specs.Answer.{object_of, accepted_line}
 use Rattle.gw_answers.specs.Assembly.{IsAssembly}
 use Rattle.gw_answers.specs.declared.request.Request.TheVariants.{Run}
@@ -32,8 +32,8 @@ use Rattle.gw_command_line.specs.declared.rows.Summing.{Summing}
 use Rattle.gw_summary.specs.Telling.{IsSummary}
 use Rattle.gw_summary.specs.declared.rows.Rows.{Rows as RowsOfStudy}
 use Rattle.gw_summary.specs.declared.telling.SummaryRequest.{SummaryRequest}
-use Rattle.gw_planner.specs.Answers.{IsReported, asked, charted, window_of, is_plain, request_of, words_of, studied_with, compared, studied, rows_asked, share_asked, object_asked}
-use Rattle.planner.specs.Answers.{answering, charting, studying, of_front, summed}
+use Rattle.gw_planner.specs.Answers.{IsReported, question_answering, chart_answering, window_of, is_plain, request_of, words_of, studied_with, comparison_answering, study_answering, rows_asked, share_asked, object_asked}
+use Rattle.planner.specs.Answers.{answering_of_input, charting_of_input, studying_of_input, of_front, summary_answering}
 use Rattle.gw_command_line.specs.declared.words.Question.{Question}
 use Rattle.gw_command_line.specs.declared.words.Question.TheVariants.{Explain, List as Lists, Points, Convert, Trace, Report}
 use Rattle.gw_command_line.specs.declared.words.Span.{Span}
@@ -47,7 +47,7 @@ explained_text bytes text status (inl h) = explained_model bytes h.0 text status
 explained_text bytes text status (inr h) = inr h.0
 
 explained_object : (r : Result Parts Fault) (text : List ℕ) (status : ℕ)
-    → MatchResult r (λ object. (status ≡ ended) × Begins (accepted_line object) text) (λ fault. (status ≡ refused) × IsAdvised (refusal_line fault) fault.code text)
+    → MatchResult r (λ object. (status ≡ end_status) × Begins (accepted_line object) text) (λ fault. (status ≡ refusal_status) × IsAdvised (refusal_line fault) fault.code text)
     → IsEnd status
 explained_object (Ok object) text status h = inl h.0
 explained_object (Err fault) text status h = inr h.0
@@ -61,7 +61,7 @@ listed_text bytes text status (inl h) = listed_model h.0 text status h.2
 listed_text bytes text status (inr h) = inr h.2.0
 
 listed_object : (r : Result Parts Fault) (text : List ℕ) (status : ℕ)
-    → MatchResult r (λ parts. (status ≡ ended) × IsListingOf parts no_sites text) (λ fault. TellsRefusal fault text status) → IsEnd status
+    → MatchResult r (λ parts. (status ≡ end_status) × IsListingOf parts no_sites text) (λ fault. TellsRefusal fault text status) → IsEnd status
 listed_object (Ok parts) text status h = inl h.0
 listed_object (Err fault) text status h = inr h.0
 
@@ -92,14 +92,14 @@ alone : (plain : Bool) (d : Demand) (bytes text : List ℕ) (status : ℕ) → M
 alone true d bytes text status h = study bytes (request_of d) text status h
 alone false d bytes text status h = told (ArePoints bytes (words_of d.options) (request_of d).count) h.0 (request_of d) text status h.2
 
-pair : (d : Demand) (bytes text : List ℕ) (status : ℕ) → compared d bytes text status → IsEnd status
+pair : (d : Demand) (bytes text : List ℕ) (status : ℕ) → comparison_answering d bytes text status → IsEnd status
 pair d bytes text status h = told (AreModels h.0 h.1 (request_of d).count) h.2 (request_of d) text status h.5
 
 report : (seed count : ℕ) (bytes text : List ℕ) (status : ℕ) → IsReported seed count bytes text status → IsEnd status
 report seed count bytes text status (inl h) = request_ends (Run seed count) h.0 text status h.2
 report seed count bytes text status (inr h) = assembly_status bytes text status h.1
 
-ends : (question : Question) (bytes text : List ℕ) (status : ℕ) → asked question bytes text status → IsEnd status
+ends : (question : Question) (bytes text : List ℕ) (status : ℕ) → question_answering question bytes text status → IsEnd status
 ends Explain bytes text status h =
     of_either (is_object bytes) _ _ status (explained_object (object_of bytes) text status) (explained_text bytes text status) h
 ends Lists bytes text status h =
@@ -110,13 +110,13 @@ ends (Trace from to) bytes text status h = shown (IsTrace from to) bytes text st
 ends (Report seed count) bytes text status h = report seed count bytes text status h
 
 -- those of a question
-pub question_ends : (question : Question) → Ends (answering question)
+pub question_ends : (question : Question) → Ends (answering_of_input question)
 question_ends question bytes text status h = ends question _ text status h
 
-pub charting_ends : (span : Span) (name : List ℕ) → Ends (charting span name)
+pub charting_ends : (span : Span) (name : List ℕ) → Ends (charting_of_input span name)
 charting_ends span name bytes text status h = shown (IsChart (window_of span) name) (take (MOST_BYTES + 1) bytes) text status h
 
-pub studying_ends : (is_pair : Bool) (d : Demand) → Ends (studying is_pair d)
+pub studying_ends : (is_pair : Bool) (d : Demand) → Ends (studying_of_input is_pair d)
 studying_ends true d bytes text status h = pair d (take (MOST_BYTES + 1) bytes) text status h
 studying_ends false d bytes text status h = alone (is_plain d.options) d (take (MOST_BYTES + 1) bytes) text status h
 
@@ -149,6 +149,6 @@ summary_end : (rows : RowsOfStudy) (request : SummaryRequest) (text : List ℕ) 
 summary_end rows request text status (inl h) = inl h.0
 summary_end rows request text status (inr h) = inr h
 
-pub summed_ends : (summing : Summing) → Ends (summed summing)
+pub summed_ends : (summing : Summing) → Ends (summary_answering summing)
 summed_ends summing bytes text status (inl h) = summary_end h.0 _ text status h.2
 summed_ends summing bytes text status (inr h) = inr h

@@ -3,7 +3,7 @@ use Rattle.std.proofs.Common.{◌≡◌, ◌∙◌, ◌++◌, ℕ, List, [], Opt
 use Rattle.std.specs.Io.KnownBytes.{Consumes, IsAtEnd}
 use Rattle.std.proofs.lemmas.List.{append_assoc, append-nil}
 use Rattle.gw_answers.specs.declared.answer.Answer.{Answer}
-use Rattle.gw_answers.specs.Status.{refused}
+use Rattle.gw_answers.specs.Status.{refusal_status}
 use Rattle.gw_command_line.specs.declared.rows.Summing.{Summing}
 use Rattle.gw_console.specs.declared.fault.ProgramFault.{ProgramFault}
 use Rattle.gw_console.specs.declared.fault.ProgramFault.TheVariants as faults
@@ -11,23 +11,23 @@ use Rattle.gw_console.specs.Output.{AnswersReader}
 use Rattle.gw_summary.specs.Keeping.{IsRead}
 use Rattle.gw_summary.specs.Telling.{IsSummaryOf}
 use Rattle.gw_summary.specs.declared.pieces.Pieces.{Pieces}
-use Rattle.planner.specs.Answers.{summary_of, summed}
+use Rattle.planner.specs.Answers.{summary_of, summary_answering}
 use Rattle.planner.specs.Reading.{ReadsAll}
 
-of_some : (summing : Summing) (known : Option (List ℕ)) (text : List ℕ) (status : ℕ) → status ≡ refused → AnswersReader (summed summing) known text status
+of_some : (summing : Summing) (known : Option (List ℕ)) (text : List ℕ) (status : ℕ) → status ≡ refusal_status → AnswersReader (summary_answering summing) known text status
 of_some summing None text status h = ([], tt, inr h)
 of_some summing (Some bytes) text status h = (bytes, refl, inr h)
 
 pub summed_up : {E : Type 0} (summing : Summing) (pieces : Pieces) (known : Option (List ℕ)) (r : Result Answer E) (told : Result Answer ProgramFault)
     → ReadsAll known pieces
     → IfOk r (λ a. (bytes : List ℕ) → IsRead bytes pieces → IsSummaryOf bytes (summary_of summing) a.text.items a.status)
-    → MatchResult r (λ a. told ≡ Ok a) (λ _. told ≡ Err faults.Memory) → IfOk told (λ a. AnswersReader (summed summing) known a.text.items a.status)
+    → MatchResult r (λ a. told ≡ Ok a) (λ _. told ≡ Err faults.Memory) → IfOk told (λ a. AnswersReader (summary_answering summing) known a.text.items a.status)
 summed_up summing pieces known (Ok a) told (bytes, known_are, read) h same = rw same (bytes, known_are, h bytes read)
 summed_up summing pieces known (Err e) told all h same = rw same tt
 
 pub refused_up : {E : Type 0} (summing : Summing) (known : Option (List ℕ)) (r : Result Answer E) (told : Result Answer ProgramFault)
-    → IfOk r (λ a. a.status ≡ refused) → MatchResult r (λ a. told ≡ Ok a) (λ _. told ≡ Err faults.Memory)
-    → IfOk told (λ a. AnswersReader (summed summing) known a.text.items a.status)
+    → IfOk r (λ a. a.status ≡ refusal_status) → MatchResult r (λ a. told ≡ Ok a) (λ _. told ≡ Err faults.Memory)
+    → IfOk told (λ a. AnswersReader (summary_answering summing) known a.text.items a.status)
 refused_up summing known (Ok a) told h same = rw same (of_some summing known a.text.items a.status h)
 refused_up summing known (Err e) told h same = rw same tt
 

@@ -3,12 +3,12 @@
 ghost use Rattle.std.specs.Prelude.{◌≡◌, ◌≢◌, ◌+◌, [], ◌∷◌, map, false, None, IfOk, OnOk, Contains};
 ghost use Rattle.std.specs.String.{string_bytes};
 ghost use Rattle.gw_answers.specs.Requests.{AnswersAs};
-ghost use Rattle.gw_answers.specs.Status.{ended, refused, failed, no_memory};
+ghost use Rattle.gw_answers.specs.Status.{end_status, refusal_status, failure_status, no_memory};
 ghost use Rattle.gw_console.specs.Output.{AnswersReader, Delivers};
 ghost use Rattle.gw_console.specs.Calls.{LosesFront, LosesAtMost, TellsReads, TellsCalls};
 ghost use Rattle.gw_command_line.specs.Asking.{MayBeMade};
 ghost use Rattle.gw_explain.specs.Meaning.{meaning};
-ghost use Rattle.planner.specs.Answers.{answering, charting_by, studying_by, DoesWords, Tells};
+ghost use Rattle.planner.specs.Answers.{answering_of_input, charting_by, studying_by, DoesWords, Tells};
 
 use crate::help::{HELP, USAGE, VERSION};
 use crate::rows::{ask_object, ask_runs, ask_shard, ask_summary};
@@ -32,7 +32,7 @@ fn read_and_answer<R: Read>(
     reader: &mut Input<R>,
 ) -> Result<Answer, ProgramFault>
     requires reader { reader.old.failed ≡ false }
-    ensures answer { AnswersAs result (AnswersReader (answering question) reader.old.left) }
+    ensures answer { AnswersAs result (AnswersReader (answering_of_input question) reader.old.left) }
     ensures told { TellsReads result reader.old.failed reader.new.failed }
     ensures whole { OnOk result (LosesFront (MOST_BYTES + 1) reader.old.left reader.new.left) }
     ensures limited { LosesAtMost (MOST_BYTES + 1) reader.old.left reader.new.left }
@@ -51,7 +51,7 @@ pub fn ask<R: Read, W: Write>(
 ) -> u8
     requires reader { reader.old.failed ≡ false }
     requires writer { writer.old.failed ≡ false }
-    ensures written { Delivers (answering question)
+    ensures written { Delivers (answering_of_input question)
         reader.old.left result writer.old.held writer.new.held }
     ensures calls { TellsCalls result reader.old reader.new writer.old writer.new }
 {

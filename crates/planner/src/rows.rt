@@ -2,14 +2,14 @@
 
 ghost use Rattle.std.specs.Prelude.{◌≡◌, ◌+◌, ◌<◌, [], length, false, IfOk, OnOk};
 ghost use Rattle.gw_answers.specs.Requests.{AnswersAs};
-ghost use Rattle.gw_answers.specs.Status.{refused as refused_status};
+ghost use Rattle.gw_answers.specs.Status.{refusal_status};
 ghost use Rattle.gw_command_line.specs.Asking.{AreRunsFit, IsRunFit, IsShardFit};
 ghost use Rattle.gw_console.specs.Output.{AnswersReader, Delivers};
 ghost use Rattle.gw_console.specs.Calls.{LosesFront, LosesAtMost, TellsReads, TellsCalls};
 ghost use Rattle.gw_summary.specs.Keeping.{IsRead};
 ghost use Rattle.planner.specs.Reading.{ReadsAll, ReadsPiece, TellsRows};
 ghost use Rattle.gw_planner.specs.Answers.{share_asked};
-ghost use Rattle.planner.specs.Answers.{making_object, of_front, summed, telling_rows};
+ghost use Rattle.planner.specs.Answers.{making_object, of_front, summary_answering, telling_rows};
 
 use gw_answers::Answer;
 use gw_answers::status::REFUSED;
@@ -185,7 +185,7 @@ fn read_pieces<R: Read>(
 
 /// The answer that refuses a line.
 fn refused(alloc: Global, line: u64, fault: RowFault) -> Result<Answer, Memory>
-    ensures { IfOk result (λ a. a.status ≡ refused_status) }
+    ensures { IfOk result (λ a. a.status ≡ refusal_status) }
 {
     Ok(Answer {
         text: refusal_of(alloc, line, &[], fault)?,
@@ -200,7 +200,7 @@ fn read_and_sum<R: Read>(
     reader: &mut Input<R>,
 ) -> Result<Answer, ProgramFault>
     requires { reader.old.failed ≡ false }
-    ensures answer { AnswersAs result (AnswersReader (summed summing) reader.old.left) }
+    ensures answer { AnswersAs result (AnswersReader (summary_answering summing) reader.old.left) }
     ensures told { TellsReads result reader.old.failed reader.new.failed }
 {
     let mut pieces = Pieces::new(alloc);
@@ -226,7 +226,7 @@ pub fn ask_summary<R: Read, W: Write>(
 ) -> u8
     requires reader { reader.old.failed ≡ false }
     requires writer { writer.old.failed ≡ false }
-    ensures { Delivers (summed summing) reader.old.left result writer.old.held writer.new.held }
+    ensures { Delivers (summary_answering summing) reader.old.left result writer.old.held writer.new.held }
 {
     deliver(writer, read_and_sum(alloc, summing, reader))
 }

@@ -3,7 +3,7 @@
 ghost use Rattle.std.specs.Prelude.{◌≡◌, ◌≤◌, ◌^◌, List, is_some, IsTrue, All};
 ghost use Rattle.gw_object.specs.declared.parts.ReturnRow.{ReturnRow};
 ghost use Rattle.gw_rules.specs.Rows.{HasRoom};
-ghost use Rattle.gw_flow.specs.Known.{known};
+ghost use Rattle.gw_flow.specs.Known.{known_row};
 ghost use Rattle.gw_rules.specs.Kinds.{block_at};
 
 use gw_flow::{AbsState, Amount, Edge, StateParts, out_edges};
@@ -33,7 +33,7 @@ fn have_room(amounts: &[Amount]) -> bool
 
 /// Whether a state knows no parameter, and has room for what a block adds to it.
 fn has_room(state: &AbsState) -> bool
-    ensures { IsTrue result → (rows : List ReturnRow) → HasRoom (known rows state.now) }
+    ensures { IsTrue result → (rows : List ReturnRow) → HasRoom (known_row rows state.now) }
 {
     let parts = state.parts();
     parts.parameters.as_slice().is_empty() && have_room(parts.units.as_slice())

@@ -3,7 +3,7 @@ use Rattle.std.specs.Prelude.{All, AllPairs}
 use Rattle.std.proofs.lemmas.Result.{IfOk-weaker}
 use Rattle.gw_rules.specs.declared.set_parameters.Parameter.{Parameter}
 use Rattle.gw_rules.specs.Blocks.{FlowEdge}
-use Rattle.gw_flow.specs.Known.{params_of, known}
+use Rattle.gw_flow.specs.Known.{params_of, known_row}
 use Rattle.gw_flow.specs.Answered.{SayTheSame, parameters_with}
 use Rattle.gw_rules.specs.Blocks.{parameter_set, edges_from, joins}
 use Rattle.gw_flow.proofs.Own.{own_at_edges, with_ascends}
@@ -18,6 +18,6 @@ pub returns-clause-same : goal.returns-clause-same
 returns-clause-same c =
     let rows = c.args.returns.now in
     let own : c.in_ok-parameters.parameters ≡ parameters_with (parameter_set c.args.number c.args.block.now) c.args.state.now.parameters = search rules in
-    let edges : c.deref.result.now ≡ edges_from c.args.number c.args.block.now (known rows c.args.state.now) ++ joins c.args.block.now (known rows c.args.state.now) = search rules in
+    let edges : c.deref.result.now ≡ edges_from c.args.number c.args.block.now (known_row rows c.args.state.now) ++ joins c.args.block.now (known_row rows c.args.state.now) = search rules in
     let each : All (λ (e : FlowEdge). e.state.params ≡ params_of rows c.in_ok-parameters.parameters) c.deref.result.now = rw (own, edges) (own_at_edges rows c.args.number c.args.block.now c.args.state.now) in
     IfOk-weaker c.in_numbers_of.result _ _ (λ out same. subst (SayTheSame rows out.items) edges (same rows each)) c.in_numbers_of.ensures.same

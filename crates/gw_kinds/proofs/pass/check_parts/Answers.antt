@@ -3,7 +3,7 @@ use Rattle.std.proofs.lemmas.Result.{err_from_is_err_and}
 use Rattle.gw_object.specs.declared.fault.Fault.{Fault}
 use Rattle.gw_object.specs.declared.fault.Place.TheVariants as places
 use Rattle.gw_object.specs.declared.parts.Parts.{Parts}
-use Rattle.gw_rules.specs.Checks.{Check, Finds, first_broken, numbered}
+use Rattle.gw_rules.specs.Checks.{Check, Finds, first_broken, checks_by_number}
 use Rattle.gw_rules.specs.Kinds.{entity_checks, return_checks, row_checks, chain_checks, block_checks}
 use Rattle.gw_rules.specs.Procedures.{procedure_checks}
 use Rattle.gw_rules.specs.Pass.{chain_and_block_checks, row_and_later_checks, return_and_later_checks, procedure_and_later_checks, kinds_checks}
@@ -16,22 +16,22 @@ Hold checks = first_broken checks ≡ None
 
 module _ (p : Parts) where
   abbrev entities : List Check
-  entities = numbered (entity_checks p) 0 p.entities
+  entities = checks_by_number (entity_checks p) 0 p.entities
 
   abbrev procedures : List Check
-  procedures = numbered (procedure_checks p) 0 p.procedures
+  procedures = checks_by_number (procedure_checks p) 0 p.procedures
 
   abbrev return_rows : List Check
-  return_rows = numbered (return_checks p) 0 p.returns
+  return_rows = checks_by_number (return_checks p) 0 p.returns
 
   abbrev block_rows : List Check
-  block_rows = numbered (λ b. row_checks p (places.Block b)) 1 p.states
+  block_rows = checks_by_number (λ b. row_checks p (places.Block b)) 1 p.states
 
   abbrev chain_rows : List Check
-  chain_rows = numbered (chain_checks p) 0 p.entities
+  chain_rows = checks_by_number (chain_checks p) 0 p.entities
 
   abbrev blocks : List Check
-  blocks = numbered (block_checks p) 1 p.blocks
+  blocks = checks_by_number (block_checks p) 1 p.blocks
 
   -- what is found behind checks that hold is found by all
   module _ (r : Result (Unit {0}) Fault) where

@@ -3,7 +3,7 @@ use Rattle.std.proofs.lemmas.Int.{to_z-of_z}
 use Rattle.std.proofs.lemmas.Option.{slice_get_within}
 use mir.Val.{SFits}
 use Rattle.gw_operands.specs.Meaning.{Derives}
-use Rattle.gw_plus.specs.Activation.{frame_of, begun}
+use Rattle.gw_plus.specs.Activation.{frame_of, first_frame}
 use Rattle.gw_plus.specs.Reading.{environment_of}
 use Rattle.gw_plus.proofs.Calls.{procedure_read}
 use Rattle.gw_plus.proofs.Runs.{begin, inside, moves, place, holds, room, went, went_less, returned, ended, called_lower, called_begins, received_moves, called_ended, called_gave, called_less}
@@ -52,7 +52,7 @@ activate-requires t c =
 pub returns-in_err-value-in-Called : goal.returns-in_err-value-in-Called
 returns-in_err-value-in-Called t c =
     let end = c.in_err-value-in-Called.field-0.0 in
-    let came = subst (λ r. Derives c.args.parts.now (environment_of c.args.env.now) c.in-Called.called (begun c.in-Called.locals.items) c.activate.ensures.0 r) c.in_err-value-in-Called.was c.activate.ensures.1 in
+    let came = subst (λ r. Derives c.args.parts.now (environment_of c.args.env.now) c.in-Called.called (first_frame c.in-Called.locals.items) c.activate.ensures.0 r) c.in_err-value-in-Called.was c.activate.ensures.1 in
     let all = called_ended c.args.parts.now (environment_of c.args.env.now) c.args.number c.as_slice-code.result.now c.args.locals.items (frame_of c.loop-called.activation) c.requires.code c.loop-called.invariant c.in-Called.called c.in-Called.locals (frame_of c.step.new.self) c.in-Called.ensures c.activate.ensures.0 end came in
     let is : c.from_residual.result ≡ Err end = search rules in
     rw is all
@@ -67,7 +67,7 @@ pub loop-called-preserved : goal.loop-called-preserved
 loop-called-preserved t c =
     let fits : SFits w64 c.in_ok-value-in-Called.value = search rules in
     let made : SFits w64 c.finished.result = search rules in
-    let came = subst (λ r. Derives c.args.parts.now (environment_of c.args.env.now) c.in-Called.called (begun c.in-Called.locals.items) c.activate.ensures.0 r) c.in_ok-value-in-Called.was c.activate.ensures.1 in
+    let came = subst (λ r. Derives c.args.parts.now (environment_of c.args.env.now) c.in-Called.called (first_frame c.in-Called.locals.items) c.activate.ensures.0 r) c.in_ok-value-in-Called.was c.activate.ensures.1 in
     called_gave c.args.parts.now (environment_of c.args.env.now) c.args.number c.as_slice-code.result.now c.args.locals.items (frame_of c.loop-called.activation) c.requires.code c.loop-called.invariant c.in-Called.called c.in-Called.locals (frame_of c.step.new.self) c.in-Called.ensures c.activate.ensures.0 c.in_ok-value-in-Called.value c.finished.result (frame_of c.push.new.self) came (rw to_z-of_z at c.finished.ensures) (rw to_z-of_z at c.push.ensures)
 
 pub returns-in-Returned : goal.returns-in-Returned

@@ -1,6 +1,6 @@
 use Rattle.std.proofs.Common.{rules, ◌≡◌, ◌++◌, ◌-◌, ◌∙◌, ℕ, List, drop, take, length, arith}
 use Rattle.std.proofs.lemmas.List.{take_all, length-drop}
-use Rattle.gw_settle.specs.Joins.{united}
+use Rattle.gw_settle.specs.Joins.{union_of}
 use Rattle.gw_settle.proofs.Uniting.{common_first}
 use Rattle.gw_settle.proofs.sets.united.Goals as goal
 
@@ -12,5 +12,5 @@ returns c =
     let k = c.count_common-common.result in
     let ns = c.args.numbers.now in
     let ms = c.args.others.now in
-    let all : c.push_united.new.all.items ≡ take k ns ++ united (take (length ns - k) (drop k ns)) (take (length ms - k) (drop k ms)) = search rules in
+    let all : c.push_united.new.all.items ≡ take k ns ++ union_of (take (length ns - k) (drop k ns)) (take (length ms - k) (drop k ms)) = search rules in
     rw (whole k ns, whole k ms) at all ∙ common_first k ns ms c.requires.numbers c.requires.others c.count_common-common.ensures.same c.count_common-common.ensures.numbers c.count_common-common.ensures.others

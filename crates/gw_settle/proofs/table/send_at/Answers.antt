@@ -1,6 +1,6 @@
 use Rattle.std.proofs.Common.{rules, ◌≡◌, true, false, Some, None, slice_set, refl, ap, ◌∙◌}
 use Rattle.std.specs.Prelude.{slice_get}
-use Rattle.gw_settle.specs.Joins.{is_within, joined, with_state}
+use Rattle.gw_settle.specs.Joins.{is_within, join_rows, with_state}
 use Rattle.gw_settle.proofs.Sent.{full_at, set_is, stays_is}
 use Rattle.gw_settle.proofs.table.send_at.Goals as goal
 
@@ -31,7 +31,7 @@ pub returns-in_ok-joined-in-Some-clause-rows : goal.returns-in_ok-joined-in-Some
 returns-in_ok-joined-in-Some-clause-rows c =
     let full : slice_get c.args.rows.now.items c.args.place ≡ Some (Some c.in-Some.row) = full_at c.args.rows.now.items c.args.place c.index.result.now (Some c.in-Some.row) c.requires (search rules) in
     let without : is_within c.args.state.now c.in-Some.row ≡ false = search rules in
-    let made : c.in_ok-joined-in-Some.joined ≡ joined c.in-Some.row c.args.state.now = search rules in
+    let made : c.in_ok-joined-in-Some.joined ≡ join_rows c.in-Some.row c.args.state.now = search rules in
     let own : c.in_ok-joined-in-Some.joined ≡ with_state c.args.state.now (Some c.in-Some.row) = rw without made in
     c.put_row-in-Some.ensures ∙ ap (λ row. slice_set c.args.rows.now.items c.args.place (Some row)) own ∙ set_is c.args.state.now c.args.place c.args.rows.now.items (Some c.in-Some.row) full
 

@@ -1,6 +1,6 @@
 use Rattle.std.proofs.Common.{rules, ◌≡◌, List, ℕ, take, drop, length}
 use Rattle.gw_object.specs.Entities.{chains_in}
-use Rattle.gw_weighing.specs.Layout.{layout_of, counted, places}
+use Rattle.gw_weighing.specs.Layout.{layout_of, place_count, places}
 use Rattle.gw_weighing.specs.Rules.{rules_of}
 use Rattle.gw_weighing.proofs.Bridge.{is_system}
 use Rattle.gw_weighing.proofs.Found.{found_for}
@@ -10,7 +10,7 @@ pub least_weights-requires-clause-system : goal.least_weights-requires-clause-sy
 least_weights-requires-clause-system c =
     let p = c.args.parts.now in
     let rules_are : c.in_ok-rules.rules.items ≡ rules_of (layout_of p) p = search rules in
-    let counted_is : c.counted.result ≡ counted (layout_of p) = search rules in
+    let counted_is : c.counted.result ≡ place_count (layout_of p) = search rules in
     let places_is : c.places.result ≡ places (layout_of p) = search rules in
     rw (rules_are, counted_is, places_is) (is_system p c.requires)
 

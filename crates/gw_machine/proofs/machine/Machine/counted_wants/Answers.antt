@@ -6,9 +6,9 @@ use Rattle.gw_num.specs.Table.{at}
 use Rattle.gw_step.specs.Residence.{occurrences}
 use Rattle.gw_step.specs.State.{delay_list}
 use Rattle.gw_machine.specs.Coherence.{IsRanked}
-use Rattle.gw_machine.specs.Shown.{shown}
+use Rattle.gw_machine.specs.Shown.{configuration_of}
 use Rattle.gw_machine.specs.View.{state_of, member_number}
-use Rattle.gw_machine.specs.Wants.{ArePast, next_of, nexts, wanting}
+use Rattle.gw_machine.specs.Wants.{ArePast, next_of, nexts, want_count}
 use Rattle.gw_machine.proofs.AtRest.{few-waits}
 use Rattle.gw_machine.proofs.Changes.{delay_list-at}
 use Rattle.gw_machine.proofs.Knowing.{known-of, occurrences-few}
@@ -21,7 +21,7 @@ loop-waiter-init c =
     record {
       ranked = subst (AllByRecursion (IsRanked m.transactions)) (sym all) (rw (← c.self.view_is) (c.self.invariant.0.delay_lists c.args.e (rw (← c.self.view_is) at c.requires)));
       counted = λ b.
-          let none : wanting b c.new-wants.result.items ≡ 0 = ap (wanting b) c.new-wants.ensures.items in
+          let none : want_count b c.new-wants.result.items ≡ 0 = ap (want_count b) c.new-wants.ensures.items in
           let same = ap (λ (ms : List Member). occurrences b (map (next_of m.transactions.txs) (map member_number ms))) all in
           let here = ap (λ ns. occurrences b (map (next_of m.transactions.txs) ns)) (delay_list-at m c.args.e) in
           omega (arith, none, same, here);
@@ -32,7 +32,7 @@ pub count_newcomer-requires : goal.count_newcomer-requires
 count_newcomer-requires c =
     let m = c.args.self.now in
     let s = state_of m in
-    let few : length (delay_list c.args.e s) ≤ 2 ^ 62 = rw (← c.self.view_is) (few-waits (shown c.self.inside) c.self.invariant.0 c.args.e) in
+    let few : length (delay_list c.args.e s) ≤ 2 ^ 62 = rw (← c.self.view_is) (few-waits (configuration_of c.self.inside) c.self.invariant.0 c.args.e) in
     record { few = omega (arith, c.loop-waiter.invariant.counted c.get.result.now.next, occurrences-few c.get.result.now.next (nexts c.args.e s), length-map (delay_list c.args.e s) (next_of s.transactions), few) }
 
 pub returns : goal.returns

@@ -1,7 +1,7 @@
 use Rattle.std.proofs.Common.{◌≡◌, ◌∙◌, None, Some, length, ap, arith}
 use Rattle.std.specs.Prelude.{sum}
 use Rattle.gw_num.proofs.Tables.{length-put_next}
-use Rattle.gw_step.specs.State.{State, raised}
+use Rattle.gw_step.specs.State.{State, with_one_more_at}
 use Rattle.gw_machine.specs.View.{state_of}
 use Rattle.gw_step.specs.Times.{environment_of_next}
 use Rattle.gw_step.proofs.Within.{sum-raised, length-raised}
@@ -9,10 +9,10 @@ use Rattle.gw_step.proofs.Suffices.{intervals_ask_for_nothing}
 use Rattle.gw_machine.proofs.machine.Machine.first_arrival.Goals as goal
 use Rattle.gw_machine.proofs.machine.Machine.first_arrival.Goals.{After-arrive}
 
-scheduled : (c : After-arrive) → c.arrive.new.self.scheduled ≡ raised c.args.number c.args.self.now.scheduled
+scheduled : (c : After-arrive) → c.arrive.new.self.scheduled ≡ with_one_more_at c.args.number c.args.self.now.scheduled
 scheduled c =
     ap (λ (s : State). s.scheduled) c.arrive.ensures.state
-    ∙ ap (raised c.args.number) (ap (λ (s : State). s.scheduled) c.set_streams.ensures.state ∙ ap (λ (s : State). s.scheduled) c.in_ok-parameters-in-Ok.ensures.state)
+    ∙ ap (with_one_more_at c.args.number) (ap (λ (s : State). s.scheduled) c.set_streams.ensures.state ∙ ap (λ (s : State). s.scheduled) c.in_ok-parameters-in-Ok.ensures.state)
 
 pub returns-in_ok-parameters-in-Ok-clause-scheduled : goal.returns-in_ok-parameters-in-Ok-clause-scheduled
 returns-in_ok-parameters-in-Ok-clause-scheduled c =

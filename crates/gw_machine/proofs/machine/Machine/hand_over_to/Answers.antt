@@ -6,7 +6,7 @@ use Rattle.gw_transactions.specs.Transactions.{Holds}
 use Rattle.gw_step.specs.Blocks.{is_seize}
 use Rattle.gw_step.proofs.Follows.{block_below}
 use Rattle.gw_machine.specs.Configuration.{Configuration}
-use Rattle.gw_machine.specs.Shown.{shown}
+use Rattle.gw_machine.specs.Shown.{configuration_of}
 use Rattle.gw_machine.proofs.Waiters.{ranked-at}
 use Rattle.gw_machine.proofs.machine.Machine.hand_over_to.Goals as goal
 
@@ -17,12 +17,12 @@ seize-there f (Some block) h = (block, refl)
 
 pub get-transaction-requires : goal.get-transaction-requires
 get-transaction-requires c =
-    let m = shown c.self.inside in
+    let m = configuration_of c.self.inside in
     ranked-at m.transactions c.args.tx (at [] m.waits.lists c.args.f) 0 (c.self.invariant.0.delay_lists c.args.f (rw (← c.self.view_is) at c.requires.there)) (rw (← c.self.view_is) at c.requires.first)
 
 pub take_over-requires-clause-held : goal.take_over-requires-clause-held
 take_over-requires-clause-held c =
-    let m = shown c.self.inside in
+    let m = configuration_of c.self.inside in
     subst (λ (m : Configuration). Holds m.transactions c.args.tx) c.self.view_is
     (ranked-at m.transactions c.args.tx (at [] m.waits.lists c.args.f) 0 (c.self.invariant.0.delay_lists c.args.f (rw (← c.self.view_is) at c.requires.there)) (rw (← c.self.view_is) at c.requires.first))
 

@@ -5,7 +5,7 @@ use Rattle.gw_num.specs.Table.{at}
 use Rattle.gw_num.proofs.Tables.{at-put, at-put_other, at_past}
 use Rattle.gw_machine.specs.declared.wants.Want.{Want}
 use Rattle.gw_machine.specs.Known.{wants_of}
-use Rattle.gw_machine.specs.Wants.{AreTold, wanting}
+use Rattle.gw_machine.specs.Wants.{AreTold, want_count}
 use Rattle.gw_machine.proofs.Wanting.{map-set, read-map}
 use Rattle.gw_machine.proofs.wants.Wants.add_newcomer.Goals as goal
 
@@ -36,4 +36,4 @@ join_known-requires c =
     let xs = c.self.inside.lists.items in
     let there : c.args.e < length xs = search rules in
     let old : at [] (map wants_of xs) c.args.e ≡ c.index_mut.result.now.items = read-map wants_of [] xs c.args.e c.index_mut.result.now there c.index_mut.ensures.value in
-    record { few = λ told. subst (λ (ws : List Want). wanting c.args.block ws ≤ 2 ^ 62) old ((rw (← c.self.view_is) at c.requires.few) (subst (AreTold c.args.entries.now) (sym old) told)) }
+    record { few = λ told. subst (λ (ws : List Want). want_count c.args.block ws ≤ 2 ^ 62) old ((rw (← c.self.view_is) at c.requires.few) (subst (AreTold c.args.entries.now) (sym old) told)) }

@@ -6,7 +6,7 @@ use Rattle.gw_code.specs.declared.parts.Instruction.TheVariants.{Value}
 use Rattle.gw_operands.specs.Sources.{source_of, as_operand}
 use Rattle.gw_operands.specs.Environment.{kept_value}
 use Rattle.gw_operands.specs.Results.{value_by_operand}
-use Rattle.gw_operands.specs.Meaning.{on, pushed}
+use Rattle.gw_operands.specs.Meaning.{on, push_value}
 use Rattle.gw_rules.proofs.PlusReading.{source_is_good}
 use Rattle.gw_plus.specs.Activation.{frame_of, Did}
 use Rattle.gw_plus.specs.Reading.{environment_of, MayReadKept}
@@ -37,5 +37,5 @@ returns-in_default c =
     let kept = subst (λ (o : Operand). kept_value env o ≡ Some c.kept.result) (source_is (goal.at.returns-in_default c).After-source_of) c.kept.ensures in
     let value : c.made.result ≡ value_by_operand parts.entities operand c.kept.result = rw (c.as_slice-entities.ensures, c.as_operand-operand.ensures, to_z-of_z) at c.made.ensures in
     let reads = kept_read env (source_of parts.entities operand) (value_by_operand parts.entities operand) next c.kept.result kept in
-    subst (λ x. Did parts (Value c.args.sna) x c.push_and_go.result (frame_of c.push_and_go.new.self)) (ap (λ v. pushed v next) value ∙ sym reads)
+    subst (λ x. Did parts (Value c.args.sna) x c.push_and_go.result (frame_of c.push_and_go.new.self)) (ap (λ v. push_value v next) value ∙ sym reads)
     (rw to_z-of_z at (c.push_and_go.ensures parts (Value c.args.sna)))

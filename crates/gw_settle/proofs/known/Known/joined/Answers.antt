@@ -3,7 +3,7 @@ use Rattle.std.specs.Prelude.{All, AllPairs}
 use Rattle.gw_rules.specs.Rows.{ParamKind, KindAscends, IsOrdered}
 use Rattle.gw_flow.proofs.Ascending.{All-from_map, AllPairs-from_map}
 use Rattle.gw_settle.specs.declared.known.KnownParam.{KnownParam}
-use Rattle.gw_settle.specs.Joins.{joined}
+use Rattle.gw_settle.specs.Joins.{join_rows}
 use Rattle.gw_settle.specs.Known.{kind_known, known_viewed}
 use Rattle.gw_settle.proofs.Keeping.{amounts_ascend}
 use Rattle.gw_settle.proofs.Ordering.{join_is_ordered}
@@ -26,5 +26,5 @@ units_joined-requires-clause-units c = amounts_ascend c.as_slice-3.result.now c.
 
 pub of_lists-requires : goal.of_lists-requires
 of_lists-requires c =
-    let all : known_viewed c.lists_of.result ≡ joined c.args.self.now c.args.state.now = search rules in
+    let all : known_viewed c.lists_of.result ≡ join_rows c.args.self.now c.args.state.now = search rules in
     subst IsOrdered (sym all) (join_is_ordered c.args.self.now c.args.state.now (subst IsOrdered c.self.view_is c.self.invariant) c.params.ensures.ordered)

@@ -2,7 +2,7 @@ use Rattle.std.proofs.Common.{rules, ◌≡◌, ◌∙◌, ap, ℤ, pos, List, �
 use Rattle.std.specs.Prelude.{None}
 use Rattle.std.proofs.lemmas.List.{length-replicate}
 use Rattle.gw_num.specs.Table.{at}
-use Rattle.gw_transactions.specs.Parameters.{shown, none_of}
+use Rattle.gw_transactions.specs.Parameters.{numbered_slots, none_of}
 use Rattle.gw_transactions.proofs.Shown.{none_shown, zero_at}
 use Rattle.gw_transactions.proofs.parameters.Parameters.unset.Goals as goal
 
@@ -17,6 +17,6 @@ invariant_of-result c = record {
 
 pub returns : goal.returns
 returns c =
-    ap (λ (xs : List ℤ). shown 0 xs) (zeros c)
+    ap (λ (xs : List ℤ). numbered_slots 0 xs) (zeros c)
     ∙ ap (λ values. record { values = None ∷ values; last = length (replicate c.args.last (pos 0)) }) (none_shown 0 c.args.last (omega (arith, c.requires)))
     ∙ ap (λ last. none_of last) (length-replicate c.args.last (pos 0))
