@@ -18,7 +18,7 @@ ghost use Rattle.gpssw.specs.Calls.{TellsCallsOf, TellsPoolCalls, tells_calls};
 use crate::framing::read_batch;
 use crate::words::{Command, command_of};
 use gw_answers::status::{FAILED, WRONG_WORDS};
-use gw_answers::{Answer, Request, answer_to, refused};
+use gw_answers::{Answer, Request, answer_to, answer_refusal};
 use gw_batch::{Entry, Shift, answer_batch, refusal_of_words};
 use gw_console::{ProgramFault, deliver, or_no_memory, read_input, write_and_end};
 use gw_object::{MOST_BYTES, Memory};
@@ -151,7 +151,7 @@ pub fn pool<R: Read, W: Write, T: Threads + Wait + Sync + Eprint + Clock>(
     ensures calls { TellsPoolCalls workers slice result reader.old reader.new writer.old writer.new }
 {
     if let Some(refusal) = refusal_of_words(workers, slice) {
-        return deliver(writer, or_no_memory(refused(alloc, refusal)));
+        return deliver(writer, or_no_memory(answer_refusal(alloc, refusal)));
     }
     match read_batch(alloc, reader) {
         Ok(entries) => {

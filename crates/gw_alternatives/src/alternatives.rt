@@ -5,7 +5,7 @@ ghost use Rattle.gw_points.specs.Points.{count_of, name_of as point_name};
 ghost use Rattle.gw_alternatives.specs.Alternatives.{IsAlternative, IsPointAt, ArePoints, ArePointsOf, AreModels};
 
 use crate::alternative::Alternative;
-use gw_answers::{NoJob, Refusal, refused};
+use gw_answers::{NoJob, Refusal, answer_refusal};
 use gw_figures::figures;
 use gw_object::Memory;
 use gw_points::{NoPoint, ParameterFault, Points, points_of, refusal_of as parameter_refusal};
@@ -24,7 +24,7 @@ pub enum NoAlternative {
 
 /// The line of a refusal, and of which alternative it is.
 fn line_of(alloc: Global, refusal: Refusal, name: &[u8]) -> Result<Vec<u8>, Memory> {
-    let mut text = refused(alloc, refusal)?.text;
+    let mut text = answer_refusal(alloc, refusal)?.text;
     if !name.is_empty() {
         text.extend_from_slice(b"of: ")?;
         text.extend_from_slice(name)?;
@@ -178,7 +178,7 @@ pub(crate) fn models_of(
 
 /// Whether a model has a figure of this name.
 fn has_figure(alloc: Global, spec: &Spec, name: &[u8]) -> Result<bool, Memory> {
-    let figures = figures(alloc, spec.verified().object().parts())?;
+    let figures = figures(alloc, spec.verified_object().object().parts())?;
     for i in 0..figures.len() {
         if figures[i].name.as_slice() == name {
             return Ok(true);

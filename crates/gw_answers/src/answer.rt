@@ -85,7 +85,7 @@ fn answer_of_job(alloc: Global, spec: Spec) -> Result<Answer, Memory>
 }
 
 /// The line of a refusal.
-pub fn refused(alloc: Global, refusal: Refusal) -> Result<Answer, Memory>
+pub fn answer_refusal(alloc: Global, refusal: Refusal) -> Result<Answer, Memory>
     ensures { IfOk result (λ a. (a.text.items ≡ refusal_line refusal.0) × (a.status ≡ refusal_status)) }
 {
     let line = format!(in alloc; "{refusal}\n")?;
@@ -169,7 +169,7 @@ fn run_of(alloc: Global, seed: u32, count: u64, input: &[u8]) -> Result<Answer, 
 {
     match spec_of(alloc, seed, count, input) {
         Ok(spec) => answer_of_job(alloc, spec),
-        Err(NoJob::Refused(refusal)) => refused(alloc, refusal),
+        Err(NoJob::Refused(refusal)) => answer_refusal(alloc, refusal),
         Err(NoJob::OutOfMemory) => Err(Memory),
     }
 }
@@ -184,7 +184,7 @@ pub fn accepted_in(alloc: Global, input: &[u8]) -> Result<Verified, NoJob>
 }
 
 /// The line of an accepted object, and the status.
-pub fn accepted(alloc: Global, verified: &Verified) -> Result<Answer, Memory>
+pub fn answer_acceptance(alloc: Global, verified: &Verified) -> Result<Answer, Memory>
     ensures { IfOk result (λ a. (a.status ≡ ended_status) × (a.text.items ≡ accepted_line verified.now)) }
 {
     let acceptance = Acceptance {
@@ -205,11 +205,11 @@ fn check_of(alloc: Global, input: &[u8]) -> Result<Answer, Memory>
 {
     match accepted_in(alloc, input) {
         Ok(verified) => {
-            let answer = accepted(alloc, &verified);
+            let answer = answer_acceptance(alloc, &verified);
             drop(verified);
             answer
         }
-        Err(NoJob::Refused(refusal)) => refused(alloc, refusal),
+        Err(NoJob::Refused(refusal)) => answer_refusal(alloc, refusal),
         Err(NoJob::OutOfMemory) => Err(Memory),
     }
 }
@@ -221,7 +221,7 @@ fn refused_text(alloc: Global, fault: Fault) -> Result<Answer, Memory>
 {
     match fault.code {
         codes::MEMORY => Err(Memory),
-        _ => refused(alloc, Refusal(fault)),
+        _ => answer_refusal(alloc, Refusal(fault)),
     }
 }
 

@@ -15,7 +15,7 @@ pub mod status;
 
 pub use acceptance::Acceptance;
 pub use answer::{
-    Answer, BUDGET, NoJob, accepted, accepted_in, answer_to, refused, run_to_end, spec_of,
+    Answer, BUDGET, NoJob, answer_acceptance, accepted_in, answer_to, answer_refusal, run_to_end, spec_of,
 };
 pub use laws::answers_are_determined;
 pub use names::NAMES;

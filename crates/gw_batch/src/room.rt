@@ -29,7 +29,7 @@ fn classes(kind: &Kind) -> usize {
 /// The classes of all tables of a job.
 fn classes_of(spec: &Spec) -> usize {
     let mut all = 0usize;
-    for entity in spec.verified().object().parts().entities.as_slice() {
+    for entity in spec.verified_object().object().parts().entities.as_slice() {
         all = all.saturating_add(classes(&entity.kind));
     }
     all

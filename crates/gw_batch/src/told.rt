@@ -4,7 +4,7 @@ ghost use Rattle.std.specs.Prelude.{◌≡◌};
 ghost use Rattle.gw_batch.specs.Parts.{IsRefusalTold};
 ghost use Rattle.gw_batch.specs.Told.{told_text, told_refused};
 
-use gw_answers::{Refusal, refused};
+use gw_answers::{Refusal, answer_refusal};
 use std::alloc::Global;
 
 /// What is told of an entry.
@@ -45,7 +45,7 @@ impl Told {
 pub(crate) fn told_refusal(alloc: Global, refusal: Refusal) -> Told
     ensures { IsRefusalTold refusal.0 (told_text result) (told_refused result) }
 {
-    match refused(alloc, refusal) {
+    match answer_refusal(alloc, refusal) {
         Ok(answer) => Told::Refusal(answer.text),
         Err(_) => Told::NoMemory,
     }

@@ -6,7 +6,7 @@ ghost use Rattle.gw_batch.specs.Batch.{entry_of, Broken};
 ghost use Rattle.gw_batch.specs.Waiting.{waiting_entry};
 
 use crate::entry::Entry;
-use gw_answers::{Refusal, refused};
+use gw_answers::{Refusal, answer_refusal};
 use gw_object::{Fault, Memory};
 use std::alloc::Global;
 use std::collections::VecDeque;
@@ -36,7 +36,7 @@ impl Line {
     fn new(alloc: Global, fault: Fault) -> Result<Line, Memory>
         ensures { IfOk result (λ line. line ≡ fault) }
     {
-        let answer = refused(alloc, Refusal(fault))?;
+        let answer = answer_refusal(alloc, Refusal(fault))?;
         Ok(Line {
             fault,
             text: answer.text,

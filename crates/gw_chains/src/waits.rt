@@ -151,7 +151,7 @@ impl Waits {
     }
 
     /// How many wait on the delay list of this entity.
-    pub fn waiting(&self, entity: u16) -> usize
+    pub fn waiting_len(&self, entity: u16) -> usize
         requires { entity < length self.now.lists }
         ensures { result ≡ length (at [] self.now.lists entity) }
     {
@@ -260,7 +260,7 @@ impl Waits {
     }
 
     /// How many are on the retry list.
-    pub fn retrying(&self) -> usize
+    pub fn retry_len(&self) -> usize
         ensures { result ≡ length self.now.retry }
     {
         self.retry.len()

@@ -10,7 +10,7 @@ use crate::levels::{axis_to, reach_of};
 use crate::plot::{
     Plot, colour_of, floor_of, height_of, put_below, put_levels, put_title, put_unit,
 };
-use gw_drawing::numbers::scaled;
+use gw_drawing::numbers::part_of_length;
 use gw_drawing::text::{put, put_signed, put_tenths, put_text_at};
 use gw_object::{Memory, Table};
 
@@ -34,7 +34,7 @@ fn bar_height(plot: Plot, axis: Axis, value: u64) -> u64
 {
     let reach = reach_of(axis);
     let shown = (value as u128).min(reach) as u64;
-    scaled(height_of(plot), shown, reach)
+    part_of_length(height_of(plot), shown, reach)
 }
 
 /// Where the bar of a class of so many lies, by its number and its height.
@@ -49,7 +49,7 @@ fn put_bar_place(
     requires height { height ≤ plot_height plot }
     ensures { OnOk result (out.new.items ≡ out.old.items ++ model.bar_place plot classes i height) }
 {
-    let x = 800 + scaled(6200, i, classes as u128) + 6200 / classes / 10;
+    let x = 800 + part_of_length(6200, i, classes as u128) + 6200 / classes / 10;
     put(out, "<rect x=\"")?;
     put_tenths(out, x)?;
     put(out, "\" y=\"")?;
@@ -118,7 +118,7 @@ fn put_limit(
     requires { i < classes }
     ensures { OnOk result (out.new.items ≡ out.old.items ++ model.limit plot table.now classes i) }
 {
-    let x = 800 + scaled(6200, i, classes as u128) + 6200 / classes / 2;
+    let x = 800 + part_of_length(6200, i, classes as u128) + 6200 / classes / 2;
     put_text_at(out, x, floor_of(plot) + 160, " text-anchor=\"middle\"")?;
     put_limit_text(out, table, classes, i)?;
     put(out, "</text>\n")

@@ -11,9 +11,9 @@ ghost use Rattle.gw_chart.specs.Charts.{EndsAt, IsChart, IsSheet, Shows};
 use crate::document::put_document;
 use crate::samples::{Samples, take_samples};
 use crate::sheet::put_sheet;
-use crate::window::{Window, clipped};
+use crate::window::{Window, clip};
 use gw_answers::status::ENDED;
-use gw_answers::{Answer, BUDGET, NoJob, refused, run_to_end};
+use gw_answers::{Answer, BUDGET, NoJob, answer_refusal, run_to_end};
 use gw_model_jobs::{Time, spec_of_text};
 use gw_object::Memory;
 use gw_scan::{Sim, Spec};
@@ -73,7 +73,7 @@ fn pictured(
         × IsChart window name.now sim.now.job a.text.items) }
 {
     let mut text = Vec::new(alloc);
-    let shown = clipped(window, Time(sim.clock()));
+    let shown = clip(window, Time(sim.clock()));
     put_document(&mut text, name, shown, sim, seen)?;
     Ok(Answer {
         text,
@@ -93,7 +93,7 @@ fn tabled(alloc: Global, sim: &Sim, seen: &Samples, window: Window) -> Result<An
         × IsSheet window sim.now.job a.text.items) }
 {
     let mut text = Vec::new(alloc);
-    let shown = clipped(window, Time(sim.clock()));
+    let shown = clip(window, Time(sim.clock()));
     put_sheet(alloc, &mut text, shown, sim, seen)?;
     Ok(Answer {
         text,
@@ -138,7 +138,7 @@ fn shown_of_run(
     ensures { IfOk result (λ a. (a.status ≡ ended_status)
         × Shows form.entry window sim.old.job a.text.items) }
 {
-    let seen = take_samples(alloc, sim, clipped(window, end))?;
+    let seen = take_samples(alloc, sim, clip(window, end))?;
     run_to_end(sim)?;
     shown(alloc, sim, &seen, window, form)
 }
@@ -198,7 +198,7 @@ fn shown_of_text(
 {
     match spec_of_text(alloc, text) {
         Ok(spec) => shown_of_job(alloc, spec, window, form),
-        Err(NoJob::Refused(refusal)) => refused(alloc, refusal),
+        Err(NoJob::Refused(refusal)) => answer_refusal(alloc, refusal),
         Err(NoJob::OutOfMemory) => Err(Memory),
     }
 }

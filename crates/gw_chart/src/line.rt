@@ -18,7 +18,7 @@ use crate::plot::{
 };
 use crate::samples::Samples;
 use crate::window::{Window, span_of};
-use gw_drawing::numbers::{round_step, scaled};
+use gw_drawing::numbers::{round_step, part_of_length};
 use gw_drawing::text::{put, put_label, put_tenths};
 use gw_object::{Items, Kind, Memory};
 
@@ -41,7 +41,7 @@ fn place_of(span: u64, part: u64) -> u64
     ensures value { result ≡ model.place_of span part }
     ensures most { result ≤ 7000 }
 {
-    800 + scaled(6200, part, span as u128)
+    800 + part_of_length(6200, part, span as u128)
 }
 
 /// The upright line at a clock on an axis that begins at another and reaches so far, and the clock.
@@ -142,7 +142,7 @@ fn put_point(out: &mut Vec<u8>, moment: u64, y: u64) -> Result<(), Memory>
     ensures { Puts result out.old out.new (model.point moment y) }
 {
     put(out, " ")?;
-    put_tenths(out, 800 + scaled(6200, moment, 499))?;
+    put_tenths(out, 800 + part_of_length(6200, moment, 499))?;
     put(out, ",")?;
     put_tenths(out, y)
 }
@@ -250,7 +250,7 @@ fn put_stroke(
     ensures { Puts result out.old out.new (model.stroke plot axis band moment) }
 {
     put(out, "M")?;
-    put_tenths(out, 800 + scaled(6200, 2 * moment + 1, 998))?;
+    put_tenths(out, 800 + part_of_length(6200, 2 * moment + 1, 998))?;
     put(out, " ")?;
     put_tenths(out, greatest_at(plot, axis, band))?;
     put(out, "V")?;

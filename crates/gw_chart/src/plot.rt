@@ -5,7 +5,7 @@ ghost use Rattle.gw_chart.specs.Plots as model;
 
 use crate::axis::Axis;
 use crate::levels::{below_of, count_of, number_at, reach_of};
-use gw_drawing::numbers::scaled;
+use gw_drawing::numbers::part_of_length;
 use gw_drawing::text::{put, put_escaped, put_signed, put_tenths, put_text_at};
 use gw_object::{Kind, Memory};
 
@@ -188,7 +188,7 @@ fn level_at(plot: Plot, axis: Axis, i: u64) -> u64
     ensures value { result ≡ model.level_at plot axis i }
     ensures most { result ≤ 1320 }
 {
-    floor_of(plot) - scaled(height_of(plot), i, count_of(axis) as u128)
+    floor_of(plot) - part_of_length(height_of(plot), i, count_of(axis) as u128)
 }
 
 /// The number of a step beside a place.
@@ -242,7 +242,7 @@ fn length_of(plot: Plot, axis: Axis, number: i64) -> u64
 {
     let reach = reach_of(axis);
     let shown = (number.unsigned_abs() as u128).min(reach) as u64;
-    scaled(height_of(plot), shown, reach)
+    part_of_length(height_of(plot), shown, reach)
 }
 
 /// The place of a number, from the upper end of a panel.

@@ -3,7 +3,7 @@
 ghost use Rattle.std.specs.Prelude.{◌≡◌, ◌≤◌, ◌<◌};
 ghost use Rattle.gw_chart.specs.Windows as model;
 
-use gw_drawing::numbers::scaled;
+use gw_drawing::numbers::part_of_length;
 use gw_model_jobs::Time;
 
 /// From which clock to which a run is shown, both in clock units; of a run that ends before, up to its end.
@@ -16,7 +16,7 @@ pub struct Window {
 }
 
 /// The part of a window that a run has, whose end is at a clock.
-pub(crate) fn clipped(window: Window, end: Time) -> Window
+pub(crate) fn clip(window: Window, end: Time) -> Window
     ensures { result ≡ model.clip window end.0 }
 {
     let end = end.0.unsigned_abs();
@@ -31,7 +31,7 @@ pub(crate) fn moment(window: Window, number: u64) -> Time
     requires { number ≤ 499 }
     ensures { result.0 ≡ model.moment window number }
 {
-    let passed = scaled(window.to.saturating_sub(window.from), number, 499);
+    let passed = part_of_length(window.to.saturating_sub(window.from), number, 499);
     let clock = (u128::from(window.from) + u128::from(passed)).min(i64::MAX as u128);
     Time(clock as i64)
 }

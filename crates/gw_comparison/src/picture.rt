@@ -9,7 +9,7 @@ use crate::axis::Frame;
 use crate::frame::{frame_of, place_of, reach_of};
 use crate::marks::{Mark, marks_of};
 use crate::point::Point;
-use gw_drawing::numbers::scaled;
+use gw_drawing::numbers::part_of_length;
 use gw_drawing::text::{put, put_escaped, put_grouped, put_tenths, put_text_at};
 use gw_object::Memory;
 use std::alloc::Global;
@@ -200,7 +200,7 @@ fn left_of(points: usize, i: usize) -> u64
 {
     let points = points.max(1) as u64;
     let i = (i as u64).min(points - 1);
-    800 + scaled(6200, i, points as u128) + 3100 / points
+    800 + part_of_length(6200, i, points as u128) + 3100 / points
 }
 
 /// A point.

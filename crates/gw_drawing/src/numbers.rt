@@ -7,7 +7,7 @@ use crate::scale::Scale;
 
 /// What a part of a whole is of a length.
 #[tactic(auto, using(crate::proofs::Places::scaled_le, crate::proofs::Places::product_fits))]
-pub fn scaled(length: u64, part: u64, whole: u128) -> u64
+pub fn part_of_length(length: u64, part: u64, whole: u128) -> u64
     requires part { part ≤ whole }
     requires whole { 0 < whole }
     ensures value { result ≡ model.part_of_length length part whole }

@@ -13,7 +13,7 @@ use crate::lines::{Text, put_lines_of};
 use crate::meaning::put_advice;
 use crate::objects::explain_object;
 use crate::summary::model_summary;
-use gw_answers::{Answer, Refusal, accepted, refused};
+use gw_answers::{Answer, Refusal, answer_acceptance, answer_refusal};
 use gw_assemble::assemble;
 use gw_object::{Fault, Memory, codes};
 use gw_rules::Verified;
@@ -61,7 +61,7 @@ fn refusal_of(
         return Err(Memory);
     }
     let lines = lines_of(alloc, text)?;
-    let mut answer = refused(alloc, Refusal(fault))?;
+    let mut answer = answer_refusal(alloc, Refusal(fault))?;
     put_told(alloc, &mut answer.text, &lines, known, sources, fault)?;
     Ok(answer)
 }
@@ -112,7 +112,7 @@ fn acceptance_of(alloc: Global, model: &Model, verified: &Verified) -> Result<An
     ensures text { IfOk result (λ a. Begins (accepted_line verified.now) a.text.items) }
     ensures status { IfOk result (λ a. a.status ≡ ended_status) }
 {
-    let mut answer = accepted(alloc, verified)?;
+    let mut answer = answer_acceptance(alloc, verified)?;
     put_summary(alloc, &mut answer.text, model, verified)?;
     Ok(answer)
 }

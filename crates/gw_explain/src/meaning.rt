@@ -9,7 +9,7 @@ ghost use Rattle.gw_explain.specs.Meaning.{code_line, meaning};
 
 use crate::advice::advice_on;
 use gw_answers::status::ENDED;
-use gw_answers::{Answer, Refusal, refused};
+use gw_answers::{Answer, Refusal, answer_refusal};
 use gw_object::{Fault, Memory, Place};
 use gw_report::text::put;
 use std::alloc::Global;
@@ -59,7 +59,7 @@ fn put_code(alloc: Global, out: &mut Vec<u8>, code: u16) -> Result<(), Memory>
     ensures { Puts result out.old out.new (code_line code) }
 {
     let place = Place::Nowhere;
-    let refusal = refused(alloc, Refusal(Fault { code, place }))?;
+    let refusal = answer_refusal(alloc, Refusal(Fault { code, place }))?;
     out.extend_from_slice(behind_refused(&refusal.text))
 }
 

@@ -9,7 +9,7 @@ ghost use Rattle.gw_explain.specs.Explanation.{Begins, IsAdvised, IsExplainedObj
 use crate::facts::known_in_object;
 use crate::meaning::put_advice;
 use crate::summary::object_summary;
-use gw_answers::{Answer, NoJob, Refusal, accepted, accepted_in, refused};
+use gw_answers::{Answer, NoJob, Refusal, answer_acceptance, accepted_in, answer_refusal};
 use gw_object::{Fault, Memory};
 use gw_rules::Verified;
 use std::alloc::Global;
@@ -29,7 +29,7 @@ fn acceptance_of(alloc: Global, verified: &Verified) -> Result<Answer, Memory>
     ensures text { IfOk result (λ a. Begins (accepted_line verified.now) a.text.items) }
     ensures status { IfOk result (λ a. a.status ≡ ended_status) }
 {
-    let mut answer = accepted(alloc, verified)?;
+    let mut answer = answer_acceptance(alloc, verified)?;
     put_summary(alloc, &mut answer.text, verified)?;
     Ok(answer)
 }
@@ -40,7 +40,7 @@ fn refusal_of(alloc: Global, input: &[u8], fault: Fault) -> Result<Answer, Memor
     ensures text { IfOk result (λ a. IsAdvised (refusal_line fault) fault.code a.text.items) }
     ensures status { IfOk result (λ a. a.status ≡ refusal_status) }
 {
-    let mut answer = refused(alloc, Refusal(fault))?;
+    let mut answer = answer_refusal(alloc, Refusal(fault))?;
     let known = known_in_object(alloc, input, fault)?;
     put_advice(&mut answer.text, &known, fault.code)?;
     Ok(answer)

@@ -7,7 +7,7 @@ ghost use Rattle.gw_figures.specs.Windows.{AddsValues, span_of, greatest as grea
 use crate::classes::rises;
 use crate::percentiles::percentile;
 use crate::quotients::{quotient, rise, signed_quotient, signed_units, units};
-use crate::window::{Window, passed};
+use crate::window::{Window, span_length};
 use gw_entities::Contents;
 use gw_object::{Kind, Memory, Table};
 use gw_report::TableFigures;
@@ -33,7 +33,7 @@ fn put_facility(
     let busy = after.busy.saturating_sub(before.busy);
     out.push(rise(before.entries, after.entries))?;
     out.push(units(window.end.entity(number).waiting as u64))?;
-    out.push(quotient(busy, passed(window)))?;
+    out.push(quotient(busy, span_length(window)))?;
     out.push(quotient(busy, after.entries.saturating_sub(before.entries)))?;
     Ok(())
 }
@@ -63,7 +63,7 @@ fn put_stay(
         (model.stay_values (span_of window.now) before after) }
 {
     let time_sum = after.time_sum.saturating_sub(before.time_sum);
-    out.push(quotient(time_sum, passed(window)))?;
+    out.push(quotient(time_sum, span_length(window)))?;
     out.push(quotient(time_sum, after.entries.saturating_sub(before.entries)))?;
     Ok(())
 }

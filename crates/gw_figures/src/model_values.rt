@@ -6,7 +6,7 @@ ghost use Rattle.gw_figures.specs.Windows.{AddsValues, span_of};
 
 use crate::entity_values::put_entity;
 use crate::quotients::{rise, signed_units, units};
-use crate::window::{Window, passed};
+use crate::window::{Window, span_length};
 use gw_object::{Entity, Memory, Parts};
 use std::alloc::Global;
 
@@ -14,7 +14,7 @@ fn put_end(out: &mut Vec<Option<i128>>, window: &Window<'_>) -> Result<(), Memor
     ensures { AddsValues result out.old out.new
         (model.end_values (span_of window.now)) }
 {
-    out.push(units(passed(window)))?;
+    out.push(units(span_length(window)))?;
     out.push(rise(window.start.steps(), window.end.steps()))?;
     out.push(rise(window.start.entries(), window.end.entries()))?;
     out.push(signed_units(i128::from(window.end.count())))?;

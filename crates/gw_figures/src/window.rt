@@ -17,7 +17,7 @@ pub struct Window<'a> {
 }
 
 /// How many clock units pass in a window.
-pub(crate) fn passed(window: &Window<'_>) -> u64
+pub(crate) fn span_length(window: &Window<'_>) -> u64
     ensures { result ≡ model.span_length (model.span_of window.now) }
 {
     let before = window.start.clock().unsigned_abs();

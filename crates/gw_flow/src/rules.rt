@@ -11,7 +11,7 @@ ghost use Rattle.gw_flow.specs.Unfit.{lowest as lowest_of};
 use crate::lookups::{Lookups, NoRow};
 use gw_blocks::{Block, Mode, Operand};
 use gw_object::{Entity, Fault, Kind, Parts, Place};
-use gw_operands::{evaluated, parameters_asked};
+use gw_operands::{evaluation_operands, parameters_asked};
 use gw_rules::check;
 use gw_rules::flow_codes::*;
 
@@ -114,7 +114,7 @@ fn check_values<S: Lookups>(
 ) -> Result<(), Fault>
     ensures { FindsRule result number (model.value_rules parts.now block.now (S.known state.now)) }
 {
-    let operands = evaluated(parts.entities.as_slice(), block);
+    let operands = evaluation_operands(parts.entities.as_slice(), block);
     match first_unfit(parts, operands.as_slice(), state) {
         Some(parameter) => check_number(number, parameter, state),
         None => Ok(()),

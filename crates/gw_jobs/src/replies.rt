@@ -65,14 +65,14 @@ impl Returned {
     }
 
     /// Whether the row is ended now. That of a cancelled job isn't, though the job may be.
-    pub fn ended(&self) -> bool
+    pub fn is_ended(&self) -> bool
         ensures { result ≡ self.now.ended }
     {
         self.ended
     }
 
     /// Whether the job was cancelled while it was out.
-    pub fn cancelled(&self) -> bool
+    pub fn is_cancelled(&self) -> bool
         ensures { result ≡ self.now.cancelled }
     {
         self.cancelled

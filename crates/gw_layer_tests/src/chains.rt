@@ -31,7 +31,7 @@ fn wait(waits: &mut Waits, entity: u16, number: u64, priority: i32) -> Result<()
 fn is_list(waits: &Waits, entity: u16, numbers: &[u64]) -> bool
     requires { entity < length waits.now.lists }
 {
-    if waits.waiting(entity) != numbers.len() {
+    if waits.waiting_len(entity) != numbers.len() {
         return false;
     }
     for i in 0..numbers.len() {
@@ -47,7 +47,7 @@ fn remove(waits: &mut Waits, entity: u16, place: usize) -> bool
     requires { entity < length waits.old.lists }
     ensures { length waits.new.lists ≡ length waits.old.lists }
 {
-    if waits.waiting(entity) <= place {
+    if waits.waiting_len(entity) <= place {
         return false;
     }
     waits.remove(entity, place);
@@ -60,7 +60,7 @@ fn delay_lists(waits: &mut Waits) -> [bool; 8]
 {
     [
         waits.len() == 5,
-        waits.retrying() == 1,
+        waits.retry_len() == 1,
         is_list(waits, 3, &[2, 4, 1]),
         is_list(waits, 7, &[3]),
         remove(waits, 3, 1),
@@ -93,9 +93,9 @@ fn delay_lists_keep_their_entities_apart(rt: HostRuntime) -> Result<(), Fail> {
 
 /// Moves the whole retry list to a chain; whether it was left empty.
 fn wake(waits: &mut Waits, chain: &mut Cec) -> Result<bool, Memory> {
-    chain.reserve(waits.retrying())?;
+    chain.reserve(waits.retry_len())?;
     waits.wake_all(chain);
-    Ok(waits.retrying() == 0)
+    Ok(waits.retry_len() == 0)
 }
 
 /// Puts a transaction at the front of a user chain, or at its back.

@@ -5,7 +5,7 @@ ghost use Rattle.gw_least_weights.specs.Rules.{is_below, raised_at};
 ghost use Rattle.gw_least_weights.specs.Least.{InRange, IsLeast};
 ghost use Rattle.gw_least_weights.specs.Rounds.{IsRaisedFor, IsRaised, IsRound, AreInOrder};
 
-use crate::rules::{Rule, needed};
+use crate::rules::{Rule, need_of};
 use gw_object::GREATEST_WEIGHT;
 
 /// Raises the weight at a place to what is needed there, or to the greatest weight, and tells whether it was below that.
@@ -27,7 +27,7 @@ fn raise_for(weights: &mut [u32], rule: &Rule) -> bool
     ensures raised { IsRaisedFor rule.now weights.old weights.new }
     ensures still { result ≡ false → weights.new ≡ weights.old }
 {
-    let needed = needed(weights, rule);
+    let needed = need_of(weights, rule);
     raise(weights, rule.at, needed)
 }
 

@@ -84,7 +84,7 @@ pub(crate) fn of_sum(weights: &[u32], sum: Sum) -> u64
 }
 
 /// What a rule asks for by these weights.
-pub(crate) fn needed(weights: &[u32], rule: &Rule) -> u64
+pub(crate) fn need_of(weights: &[u32], rule: &Rule) -> u64
     ensures { result ≡ model.need_of weights.now rule.now }
 {
     of_sum(weights, rule.first).max(of_sum(weights, rule.second))

@@ -7,7 +7,7 @@ ghost use Rattle.gw_listing.specs.Listing.{IsListingOf, TellsRefusal, IsListedOb
 
 use crate::parts::listing_of;
 use gw_answers::status::ENDED;
-use gw_answers::{Answer, NoJob, Refusal, accepted_in, refused};
+use gw_answers::{Answer, NoJob, Refusal, accepted_in, answer_refusal};
 use gw_assemble::assemble;
 use gw_object::{Fault, Memory, codes};
 use gw_rules::Verified;
@@ -38,7 +38,7 @@ fn refused_text(alloc: Global, fault: Fault) -> Result<Answer, Memory>
     if fault.code == codes::MEMORY {
         Err(Memory)
     } else {
-        refused(alloc, Refusal(fault))
+        answer_refusal(alloc, Refusal(fault))
     }
 }
 
@@ -52,7 +52,7 @@ fn list_object(alloc: Global, object: &[u8]) -> Result<Answer, Memory>
             drop(verified);
             answer
         }
-        Err(NoJob::Refused(refusal)) => refused(alloc, refusal),
+        Err(NoJob::Refused(refusal)) => answer_refusal(alloc, refusal),
         Err(NoJob::OutOfMemory) => Err(Memory),
     }
 }

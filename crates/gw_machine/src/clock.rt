@@ -61,7 +61,7 @@ impl Machine {
             self.old self.new }
     {
         let due = self.future_events.len();
-        self.current_events.reserve(due + self.waits.retrying())?;
+        self.current_events.reserve(due + self.waits.retry_len())?;
         self.move_clock(time);
         self.wake();
         Ok(())

@@ -13,11 +13,11 @@ use gw_members::{Memory, Tx};
 
 impl Machine {
     /// How many wait on the delay list of an entity.
-    pub fn waiting(&self, entity: u16) -> usize
+    pub fn waiting_len(&self, entity: u16) -> usize
         requires entity { entity < entity_count self.now }
         ensures { result ≡ length (at [] self.now.waits.lists entity) }
     {
-        self.waits.waiting(entity)
+        self.waits.waiting_len(entity)
     }
 
     /// Makes room for so many more members of the current events chain.

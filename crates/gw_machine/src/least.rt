@@ -89,7 +89,7 @@ impl Machine {
         requires { e < entity_count self.old }
         ensures { self.new ≡ self.old }
     {
-        if self.waits.waiting(e) < MANY {
+        if self.waits.waiting_len(e) < MANY {
             return;
         }
         let wants = self.counted_wants(e);

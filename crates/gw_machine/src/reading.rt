@@ -49,7 +49,7 @@ impl Machine {
 
     /// The named end, if one stands.
     #[inline]
-    pub fn ended(&self) -> Option<End>
+    pub fn named_end(&self) -> Option<End>
         ensures { result ≡ self.now.ended }
     {
         self.ended
@@ -64,7 +64,7 @@ impl Machine {
     }
 
     /// The arrivals scheduled so far, by the numbers of GENERATE blocks.
-    pub fn scheduled(&self) -> &[u64]
+    pub fn arrivals(&self) -> &[u64]
         ensures { result.now ≡ self.now.scheduled }
     {
         &self.scheduled

@@ -25,7 +25,7 @@ impl Machine {
         ensures room { OnOk result (length self.new.waits.retry ≤ self.new.current_events.room) }
         ensures frame { self.new ≡ record self.old { current_events = self.new.current_events } }
     {
-        let retrying = self.waits.retrying();
+        let retrying = self.waits.retry_len();
         if retrying == 0 {
             return Ok(());
         }
@@ -50,7 +50,7 @@ impl Machine {
         ensures room { OnOk result (HasRoom self.new) }
         ensures frame { OnlyEventsChange self.old self.new }
     {
-        let retrying = self.waits.retrying();
+        let retrying = self.waits.retry_len();
         self.reserve_time()?;
         self.current_events.reserve(retrying + 1)
     }
@@ -62,7 +62,7 @@ impl Machine {
             (length self.new.waits.retry + 1 < self.new.current_events.room) }
         ensures frame { self.new ≡ record self.old { current_events = self.new.current_events } }
     {
-        self.current_events.reserve(self.waits.retrying() + 2)
+        self.current_events.reserve(self.waits.retry_len() + 2)
     }
 
     /// Makes room for one more on the delay list of an entity.
@@ -98,7 +98,7 @@ impl Machine {
         ensures frame { OnlyWaking self.old self.new }
     {
         self.stir = false;
-        if self.waits.retrying() == 0 {
+        if self.waits.retry_len() == 0 {
             return;
         }
         self.waits.wake_all(&mut self.current_events);

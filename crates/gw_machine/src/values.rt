@@ -22,7 +22,7 @@ use crate::machine::Machine;
 use gw_blocks::{EntityAttribute, Numbered, Operand};
 use gw_members::Tx;
 use gw_num::Stream;
-use gw_operands::{PlusEnd, made, source_of};
+use gw_operands::{PlusEnd, operand_value, source_of};
 use gw_plus::{Env, eval};
 use gw_rules::Verified;
 use gw_transactions::{Parameters, Transaction};
@@ -125,7 +125,7 @@ impl Machine {
     {
         match tx {
             Some(tx) => self.transactions.parameters(tx),
-            None => self.transactions.unset(),
+            None => self.transactions.no_parameters(),
         }
     }
 
@@ -178,7 +178,7 @@ impl Machine {
         match source {
             Operand::Random(stream) => Ok(drawn_below(bound, stream, streams)),
             Operand::Procedure(procedure) => eval(verified, procedure, &self.env(subject)),
-            _ => Ok(self.env(subject).kept(source)),
+            _ => Ok(self.env(subject).kept_value(source)),
         }
     }
 
@@ -220,6 +220,6 @@ impl Machine {
         let entities = verified.object().parts().entities.as_slice();
         let source = source_of(entities, operand);
         let value = self.source_value(verified, subject, draws_below(operand), source, streams)?;
-        Ok(made(entities, operand, value))
+        Ok(operand_value(entities, operand, value))
     }
 }

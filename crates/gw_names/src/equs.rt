@@ -5,7 +5,7 @@ ghost use Rattle.gw_names.specs.Known.{Finds, found_in};
 ghost use Rattle.gw_names.specs.Places as model;
 ghost use Rattle.gw_names.specs.Places.{number_below};
 
-use crate::maps::{found, set};
+use crate::maps::{value_of_name, set};
 use gw_text::{Expression, Operand, Statement, Word};
 use indexmap::IndexMap;
 use std::alloc::AllocError;
@@ -16,7 +16,7 @@ fn number_of(numbers: &IndexMap<String, i64>, operand: &Operand) -> Option<i64>
 {
     match operand {
         Operand::Whole(number) => Some(*number),
-        Operand::Expression(Expression::Name(name)) => found(numbers, name),
+        Operand::Expression(Expression::Name(name)) => value_of_name(numbers, name),
         _ => None,
     }
 }

@@ -10,7 +10,7 @@ use crate::codes;
 use crate::declarations::is_equ;
 use crate::known::Known;
 use crate::ledger::{Ledger, note_if};
-use crate::maps::found;
+use crate::maps::value_of_name;
 use gw_rules::EntityKind;
 use gw_text::{Body, Statement};
 use gw_uses::{Site, Use, uses_in};
@@ -105,13 +105,13 @@ fn fault_of(known: &Known, statements: &[Statement], site: Site<'_>) -> Option<u
     match site.used {
         Use::Entity(kind, name) => unless_declared(kind, known.declarations.get(kind, name)),
         Use::Parameter(_) | Use::ParameterNumber(_) => None,
-        Use::Label(label) => named_if(found(&known.blocks, label).is_some()),
+        Use::Label(label) => named_if(value_of_name(&known.blocks, label).is_some()),
         Use::Equ(name) => {
             let in_equ = is_equ_at(statements, site.statement);
-            named_if(may_use_equ(found(&known.equs, name), in_equ, site.statement))
+            named_if(may_use_equ(value_of_name(&known.equs, name), in_equ, site.statement))
         }
         Use::Call(name, given) => {
-            let procedure = found(&known.procedures, name);
+            let procedure = value_of_name(&known.procedures, name);
             named_if(may_call_at(statements, procedure, site.line, given))
         }
         Use::Target(_) => Some(codes::NAME),

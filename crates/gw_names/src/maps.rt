@@ -8,7 +8,7 @@ use indexmap::IndexMap;
 use std::alloc::AllocError;
 
 /// What a name stands for, if it is known.
-pub fn found<T: Copy + Drop>(map: &IndexMap<String, T>, name: &String) -> Option<T>
+pub fn value_of_name<T: Copy + Drop>(map: &IndexMap<String, T>, name: &String) -> Option<T>
     ensures { result ≡ found_in map.now (string_bytes name.now) }
 {
     map.get(name.as_str()).copied()

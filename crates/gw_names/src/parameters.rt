@@ -12,7 +12,7 @@ ghost use Rattle.gw_names.specs.Sighting.{RefusesName, RefusesNameIn, RefusesNam
 
 use crate::codes;
 use crate::ledger::Ledger;
-use crate::maps::found;
+use crate::maps::value_of_name;
 use gw_uses::{Site, Use};
 use indexmap::IndexMap;
 use std::alloc::{AllocError, Global};
@@ -101,7 +101,7 @@ fn see(
     ensures ledger { OnOk result (RefusesName free.now parameters.old line name.now
         ledger.old ledger.new) }
 {
-    if found(parameters, name).is_some() {
+    if value_of_name(parameters, name).is_some() {
         Ok(())
     } else if parameters.len() < free.len() {
         let number = free[parameters.len()];

@@ -122,7 +122,7 @@ pub fn values(block: &Block) -> Operands
 
 /// The operands that are evaluated when a transaction enters a block, in order: its `values`, and at a TABULATE the
 /// argument of its table (GPSS World Reference Manual, chapter 7).
-pub fn evaluated(entities: &[Entity], block: &Block) -> Operands
+pub fn evaluation_operands(entities: &[Entity], block: &Block) -> Operands
     ensures { result ≡ model.evaluation_operands entities.now block.now }
 {
     match block {

@@ -102,7 +102,7 @@ fn function_made(entities: &[Entity], operand: Operand, value: i64) -> i64
 /// where that isn't 0, else 0 (docs/plus-code.md), and an FN is the value that its function has at the value of its
 /// argument (GPSS World Reference Manual, "FUNCTION": a discrete one, so that of the first point which it isn't above,
 /// else that of the last). Any other operand is its own source, and leaves the value as it is.
-pub fn made(entities: &[Entity], operand: Operand, value: i64) -> i64
+pub fn operand_value(entities: &[Entity], operand: Operand, value: i64) -> i64
     ensures { result ≡ model.value_by_operand entities.now operand value }
 {
     let of_argument = truth_made(argument_in(entities, operand), value);

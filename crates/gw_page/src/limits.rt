@@ -107,7 +107,7 @@ fn allowance_of_report(
 fn figures_of(alloc: Global, spec: &Spec) -> Result<u64, Memory>
     ensures { IfOk result (λ count. count ≡ length (labels_of spec.now.parts)) }
 {
-    Ok(figures(alloc, spec.verified().object().parts())?.len() as u64)
+    Ok(figures(alloc, spec.verified_object().object().parts())?.len() as u64)
 }
 
 /// The job of a run of this number of a job's object.

@@ -6,7 +6,7 @@ ghost use Rattle.gw_pieces.specs.Naming as model;
 
 use crate::origins::Origin;
 use gw_compile::{Callee, Equ};
-use gw_names::{Known, found, is_equ, set, set_label};
+use gw_names::{Known, value_of_name, is_equ, set, set_label};
 use gw_text::{Body, Model, Procedure, Statement};
 use indexmap::IndexMap;
 use std::alloc::{AllocError, Global};
@@ -119,7 +119,7 @@ fn put_number_of(
 ) -> Result<(), AllocError>
     ensures { Sets result equs.old equs.new (model.known_number known.now (string_bytes name.now)) }
 {
-    match found(&known.equ_numbers, name) {
+    match value_of_name(&known.equ_numbers, name) {
         Some(number) => set(equs, name, Equ::Number(number)),
         None => Ok(()),
     }

@@ -6,7 +6,7 @@ ghost use Rattle.gw_pieces.specs.Order as model;
 ghost use Rattle.gw_pieces.specs.Order.{lookup_for, lookup_of, ordered_by};
 
 use crate::origins::{Origin, expression_at, place_of, whole_call};
-use gw_names::{Known, found};
+use gw_names::{Known, value_of_name};
 use gw_rules::EntityKind;
 use gw_text::{Body, EntityValue, Model, Operand, Sna, Statement};
 use gw_uses::{Use, put_uses_of_operand, put_uses_of_procedure};
@@ -68,10 +68,10 @@ fn origin_of_argument(text: &Text<'_>, argument: &Operand, statement: usize) -> 
     ensures { result ≡ model.of_argument (lookup_of text.now) statement (Some argument.now) }
 {
     match argument {
-        Operand::Name(name) => origin_of(found(&text.known.equs, name)),
+        Operand::Name(name) => origin_of(value_of_name(&text.known.equs, name)),
         Operand::Sna(sna) => origin_of_attribute(text, sna),
         Operand::Expression(expression) => match whole_call(expression) {
-            Some(name) => origin_of(found(&text.known.procedures, name)),
+            Some(name) => origin_of(value_of_name(&text.known.procedures, name)),
             None => Some(Origin {
                 statement,
                 operand: 0,
@@ -116,8 +116,8 @@ fn called_by(text: &Text<'_>, used: Use<'_>) -> Option<Origin>
 {
     match used {
         Use::Entity(kind, name) => origin_of_entity(text, kind, name),
-        Use::Equ(name) => origin_of(found(&text.known.equs, name)),
-        Use::Call(name, _) => origin_of(found(&text.known.procedures, name)),
+        Use::Equ(name) => origin_of(value_of_name(&text.known.equs, name)),
+        Use::Call(name, _) => origin_of(value_of_name(&text.known.procedures, name)),
         Use::Parameter(_) | Use::ParameterNumber(_) | Use::Label(_) | Use::Target(_) => None,
     }
 }

@@ -7,7 +7,7 @@ ghost use Rattle.gw_names.specs.Places.{label_of};
 ghost use Rattle.gw_pieces.specs.Order as order;
 ghost use Rattle.gw_pieces.specs.Origins as model;
 
-use gw_names::{Known, found, is_equ};
+use gw_names::{Known, value_of_name, is_equ};
 use gw_text::{Body, Expression, Model, Operand, Statement, Word};
 use std::alloc::{AllocError, Global};
 
@@ -58,7 +58,7 @@ fn is_number(known: &Known, statement: &Statement) -> bool
     ensures { result ≡ order.is_number (found_in known.now.equ_numbers) (label_of statement.now) }
 {
     match &statement.label {
-        Some(name) => found(&known.equ_numbers, name).is_some(),
+        Some(name) => value_of_name(&known.equ_numbers, name).is_some(),
         None => false,
     }
 }

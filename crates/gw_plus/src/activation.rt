@@ -17,7 +17,7 @@ use gw_blocks::Operand;
 use gw_code::{Back, Instruction, Sna};
 use gw_num::{Binary, NumFault, Unary};
 use gw_object::Parts;
-use gw_operands::{PlusEnd, as_operand, made, source_of};
+use gw_operands::{PlusEnd, as_operand, operand_value, source_of};
 
 /// How often a BACK was taken.
 #[derive(Clone, Copy, Debug, Default, PartialEq, Eq)]
@@ -107,7 +107,7 @@ pub(crate) fn finished(parts: &Parts, instruction: Instruction, value: i64) -> i
     ensures { result ≡ finish_of parts.now instruction value }
 {
     match instruction {
-        Instruction::Value(sna) => made(parts.entities.as_slice(), as_operand(sna), value),
+        Instruction::Value(sna) => operand_value(parts.entities.as_slice(), as_operand(sna), value),
         _ => value,
     }
 }
@@ -223,7 +223,7 @@ impl Activation {
         let operand = as_operand(sna);
         match source_of(entities, operand) {
             Operand::Procedure(called) => self.call_alone(parts, called),
-            source => self.push_and_go(made(entities, operand, env.kept(source))),
+            source => self.push_and_go(operand_value(entities, operand, env.kept_value(source))),
         }
     }
 

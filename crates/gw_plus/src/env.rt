@@ -133,7 +133,7 @@ impl Env<'_> {
     }
 
     /// The value of an operand that is kept: a constant, a parameter that is set, or an attribute (docs/plus-code.md).
-    pub fn kept(&self, operand: Operand) -> i64
+    pub fn kept_value(&self, operand: Operand) -> i64
         requires { MayReadKept self.now operand }
         ensures { kept_value (environment_of self.now) operand ≡ Some result }
     {

@@ -48,7 +48,7 @@ fn blocks_of(alloc: Global, sim: &Sim) -> Result<Vec<BlockFigures>, Memory>
 {
     let number = sim
         .spec()
-        .verified()
+        .verified_object()
         .object()
         .parts()
         .blocks
@@ -89,7 +89,7 @@ fn entity_of(sim: &Sim, number: u16) -> EntityFigures
         switch: sim.switches().get(number),
         savevalue: sim.savevalues().get(number),
         table: table_of(sim, number),
-        waiting: sim.waiting(number),
+        waiting: sim.waiting_len(number),
         members: sim.members(number),
     }
 }
@@ -100,7 +100,7 @@ fn entities_of(alloc: Global, sim: &Sim) -> Result<Vec<EntityFigures>, Memory>
 {
     let number = sim
         .spec()
-        .verified()
+        .verified_object()
         .object()
         .parts()
         .entities
@@ -119,7 +119,7 @@ fn classes_of_tables(alloc: Global, sim: &Sim) -> Result<Vec<Vec<u64>>, Memory>
 {
     let number = sim
         .spec()
-        .verified()
+        .verified_object()
         .object()
         .parts()
         .entities

@@ -240,7 +240,7 @@ impl Visit<'_> {
         requires { Meets self.now machine.old (Block.Leave u) }
         ensures { ActsOnOk result self.now (Block.Leave u) machine.old machine.new }
     {
-        let waiting = machine.waiting(u.entity);
+        let waiting = machine.waiting_len(u.entity);
         if waiting == 0 {
             return Ok(self.leave_alone(machine, u));
         }

@@ -56,7 +56,7 @@ impl Sim {
         ensures started { IfOk result (λ sim. (sim.job ≡ spec) × (start_of spec ≡ Some sim.state)) }
         ensures refused { IfErr result (λ e. (e.0 ≡ spec) × (e.1 ≡ StartFault.Memory)) }
     {
-        match Machine::start(alloc, spec.verified(), spec.count(), spec.streams()) {
+        match Machine::start(alloc, spec.verified_object(), spec.count(), spec.streams()) {
             Ok(machine) => Ok(Sim { spec, machine }),
             Err(_) => Err((spec, StartFault::Memory)),
         }
@@ -76,10 +76,10 @@ impl Sim {
         ensures reached { IsReached self.new }
         ensures moment { StaysPaid self.old self.new }
     {
-        if let Some(end) = self.machine.ended() {
+        if let Some(end) = self.machine.named_end() {
             return Ok(Status::Ended(end));
         }
-        let verified = self.spec.verified();
+        let verified = self.spec.verified_object();
         let budget = self.spec.budget();
         let decoded = self.spec.decoded();
         step(&mut self.machine, verified, decoded, budget)?;
@@ -91,7 +91,7 @@ impl Sim {
         ensures value { result ≡ status_at self.now.state.ended }
         ensures reached { IsReached self.now }
     {
-        match self.machine.ended() {
+        match self.machine.named_end() {
             None => Status::Running,
             Some(end) => Status::Ended(end),
         }
@@ -115,7 +115,7 @@ impl Sim {
         ensures value { result ≡ weight self.now.job.parts self.now.state }
         ensures range { result ≤ most_weight (2 ^ 63 - 1) }
     {
-        let parts = self.spec.verified().object().parts();
+        let parts = self.spec.verified_object().object().parts();
         certified_weight(parts, &self.machine)
     }
 
@@ -207,11 +207,11 @@ impl Sim {
     }
 
     /// How many transactions wait for an entity, by its number from 0: the length of its delay list.
-    pub fn waiting(&self, entity: u16) -> usize
+    pub fn waiting_len(&self, entity: u16) -> usize
         requires { entity < length self.now.job.parts.entities }
         ensures { result ≡ length (delay_list entity self.now.state) }
     {
-        self.machine.waiting(entity)
+        self.machine.waiting_len(entity)
     }
 
     /// How many members a user chain has, by its number from 0 as an entity.

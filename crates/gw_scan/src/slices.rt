@@ -43,10 +43,10 @@ fn run_until(spec: &Spec, machine: &mut Machine, until: u64) -> Result<(), Memor
     ensures rise { machine.old.steps ≤ machine.new.steps }
     ensures most { machine.new.steps ≤ until }
 {
-    let verified = spec.verified();
+    let verified = spec.verified_object();
     let decoded = spec.decoded();
     let mut before = nothing_before(machine.streams());
-    while machine.steps() < until && machine.ended().is_none() {
+    while machine.steps() < until && machine.named_end().is_none() {
         step_past_budget(machine, verified, decoded, &mut before)?;
     }
     machine.end_at_budget(spec.budget());
@@ -66,7 +66,7 @@ fn run(spec: &Spec, machine: &mut Machine, steps: u32) -> Result<Slice, Memory>
     let until = most_after(first, steps, spec.budget());
     run_until(spec, machine, until)?;
     let made = (machine.steps() - first) as u32;
-    let ended = machine.ended().is_some();
+    let ended = machine.named_end().is_some();
     Ok(Slice { made, ended })
 }
 

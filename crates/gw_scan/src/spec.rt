@@ -220,7 +220,7 @@ impl Spec {
         if let Some(fault) = fault_of(seeds, count, self.budget) {
             return Err(fault);
         }
-        let parts = self.verified().object().parts();
+        let parts = self.verified_object().object().parts();
         let streams = streams_of(seeds_or(seeds, parts.seeds.as_slice()));
         let count = count_or(count, parts.count);
         let Ok(decoded) = Arc::try_clone(&self.decoded) else {
@@ -239,7 +239,7 @@ impl Spec {
     }
 
     /// The object that it runs.
-    pub fn verified(&self) -> &Verified
+    pub fn verified_object(&self) -> &Verified
         ensures value { result.now ≡ self.now.parts }
         ensures fits { JobFits self.now }
     {
@@ -257,7 +257,7 @@ impl Spec {
     fn parts(&self) -> &Parts
         ensures { result.now ≡ self.now.parts }
     {
-        self.verified().object().parts()
+        self.verified_object().object().parts()
     }
 
     /// Its 16 streams, each at its seed, from the first on.

@@ -26,18 +26,18 @@ impl Sim {
     }
 
     /// How many transactions wait on delay lists, those of all facilities and storages together.
-    pub fn delayed(&self) -> usize
+    pub fn delayed_len(&self) -> usize
         ensures { result ≡ delayed_in self.now.state }
     {
         let waits = self.machine.waits();
-        waits.len() - waits.retrying()
+        waits.len() - waits.retry_len()
     }
 
     /// How many transactions wait on the retry list.
-    pub fn retrying(&self) -> usize
+    pub fn retry_len(&self) -> usize
         ensures { result ≡ length self.now.state.lists.retry }
     {
-        self.machine.waits().retrying()
+        self.machine.waits().retry_len()
     }
 
     /// How many transactions are live, scheduled arrivals included.
@@ -61,7 +61,7 @@ impl Sim {
         ensures { result ≡ model.next_pair self.now.job.parts self.now.state }
     {
         let transaction = self.active_transaction()?;
-        two_next(self.spec().verified().object().parts(), transaction)
+        two_next(self.spec().verified_object().object().parts(), transaction)
     }
 
     /// The number of the transaction that owns a facility, which is given by its number from 0 as an entity; nobody owns
@@ -74,7 +74,7 @@ impl Sim {
         if number as usize
             >= self
                 .spec
-                .verified()
+                .verified_object()
                 .object()
                 .parts()
                 .entities

@@ -193,6 +193,6 @@ pub(crate) fn certified_weight(parts: &Parts, machine: &Machine) -> u128
     ensures range { result ≤ model.most_weight greatest_value }
 {
     let all = weight_of_all(parts, machine.transactions());
-    let owed = weight_owed(parts, machine.scheduled());
+    let owed = weight_owed(parts, machine.arrivals());
     all + owed - weight_of_later(parts, machine)
 }

@@ -9,7 +9,7 @@ ghost use Rattle.gw_shards.specs.Objects as model;
 
 use gw_alternatives::{Alternative, NoAlternative, points_by_words};
 use gw_answers::status::{ENDED, REFUSED};
-use gw_answers::{Answer, Refusal, refused};
+use gw_answers::{Answer, Refusal, answer_refusal};
 use gw_fields::Items;
 use gw_object::{Memory, Object, Parts, codes};
 use gw_object_bytes::{build, read, write};
@@ -52,7 +52,7 @@ fn spelled(alloc: Global, parts: Parts) -> Result<Answer, Memory>
         }
         Err((parts, fault)) => {
             drop(parts);
-            refused(alloc, Refusal(fault))
+            answer_refusal(alloc, Refusal(fault))
         }
     }
 }
@@ -80,7 +80,7 @@ fn reseeded_bytes(alloc: Global, bytes: &[u8], run: u32, count: u64) -> Result<A
     match read(alloc, bytes) {
         Ok(object) => reseeded(alloc, object, run, count),
         Err(fault) if fault.code == codes::MEMORY => Err(Memory),
-        Err(fault) => refused(alloc, Refusal(fault)),
+        Err(fault) => answer_refusal(alloc, Refusal(fault)),
     }
 }
 
@@ -89,7 +89,7 @@ fn object_of_point(alloc: Global, point: &Alternative, run: u32) -> Result<Answe
     requires { run < 512 }
     ensures { model.Reseeds point.now.spec.parts run point.now.spec.count result }
 {
-    let bytes = write(alloc, point.spec.verified().object())?;
+    let bytes = write(alloc, point.spec.verified_object().object())?;
     reseeded_bytes(alloc, &bytes, run, point.spec.count())
 }
 

@@ -101,7 +101,7 @@ fn put_point<T: Threads + Sync + Eprint>(
 fn header_of(alloc: Global, point: &Alternative) -> Result<Vec<u8>, Memory>
     ensures { IfOk result (λ header. header.items ≡ model.header_of point.now) }
 {
-    let figures = figures(alloc, point.spec.verified().object().parts())?;
+    let figures = figures(alloc, point.spec.verified_object().object().parts())?;
     let mut header = Vec::new(alloc);
     put_header(alloc, &mut header, &figures)?;
     Ok(header)

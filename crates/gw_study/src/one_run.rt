@@ -130,7 +130,7 @@ fn run_through(alloc: Global, sim: &mut Sim, figures: &[Figure], from: u64) -> R
         middle,
         last,
     };
-    let parts = sim.spec().verified().object().parts();
+    let parts = sim.spec().verified_object().object().parts();
     kept(alloc, parts, figures, from == 0, end_of(sim), &stops)
 }
 

@@ -11,7 +11,7 @@ use crate::runs::{Setup, runs_in_order, runs_of};
 use crate::streams::put_streams;
 use crate::telling::{Results, table};
 use gw_answers::status::ENDED;
-use gw_answers::{Answer, BUDGET, NoJob, Refusal, refused};
+use gw_answers::{Answer, BUDGET, NoJob, Refusal, answer_refusal};
 use gw_figures::figures;
 use gw_model_jobs::spec_of_text;
 use gw_object::Memory;
@@ -64,7 +64,7 @@ pub fn results<T: Threads + Sync + Eprint>(
     requires budget { spec.now.budget ≡ BUDGET }
     ensures { IfOk result (AreResultsOf spec.now request.now) }
 {
-    let figures = figures(alloc, spec.verified().object().parts())?;
+    let figures = figures(alloc, spec.verified_object().object().parts())?;
     let setup = Setup {
         spec,
         figures: &figures,
@@ -108,7 +108,7 @@ pub fn results_between<T: Threads + Sync + Eprint>(
     requires budget { spec.now.budget ≡ BUDGET }
     ensures { IfOk result (AreResultsBetween spec.now from first end) }
 {
-    let figures = figures(alloc, spec.verified().object().parts())?;
+    let figures = figures(alloc, spec.verified_object().object().parts())?;
     let setup = Setup {
         spec,
         figures: &figures,
@@ -157,7 +157,7 @@ pub fn study<T: Threads + Sync + Eprint>(
             drop(spec);
             answer
         }
-        Err(NoJob::Refused(refusal)) => refused(alloc, refusal),
+        Err(NoJob::Refused(refusal)) => answer_refusal(alloc, refusal),
         Err(NoJob::OutOfMemory) => Err(Memory),
     }
 }

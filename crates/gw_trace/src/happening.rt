@@ -112,14 +112,14 @@ pub(crate) fn what_happened(before: &Sight, sim: &Sim) -> Happening
 pub(crate) fn is_delayed(before: &Sight, sim: &Sim) -> bool
     ensures { result ≡ model.is_delayed before.now sim.now.state }
 {
-    before.delayed < sim.delayed()
+    before.delayed < sim.delayed_len()
 }
 
 /// How many waiters a facility or a storage was given to, which then left its delay list.
 pub(crate) fn let_in(before: &Sight, sim: &Sim) -> usize
     ensures { result ≡ model.let_in before.now sim.now.state }
 {
-    before.delayed.saturating_sub(sim.delayed())
+    before.delayed.saturating_sub(sim.delayed_len())
 }
 
 /// How many the step woke of those who were on the retry list.
@@ -127,6 +127,6 @@ pub(crate) fn woken(before: &Sight, sim: &Sim, happening: Happening) -> usize
     ensures { result ≡ model.woken_members before.now sim.now.state happening }
 {
     let joined = matches!(happening, Happening::Refusal) && !is_delayed(before, sim);
-    let left = sim.retrying().saturating_sub(usize::from(joined));
+    let left = sim.retry_len().saturating_sub(usize::from(joined));
     before.retrying.saturating_sub(left)
 }

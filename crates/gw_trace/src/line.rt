@@ -300,8 +300,8 @@ fn put_lengths(out: &mut Vec<u8>, sim: &Sim) -> Result<(), Memory>
 {
     put_column(out, 7, sim.current_events())?;
     put_column(out, 7, sim.future_events())?;
-    put_column(out, 7, sim.delayed())?;
-    put_column(out, 7, sim.retrying())
+    put_column(out, 7, sim.delayed_len())?;
+    put_column(out, 7, sim.retry_len())
 }
 
 /// The columns of a line.
@@ -335,7 +335,7 @@ fn put_words(
 pub(crate) fn put_line(out: &mut Vec<u8>, before: &Sight, sim: &Sim) -> Result<(), Memory>
     ensures { Puts result out.old out.new (model.step_line sim.now.job.parts before.now sim.now.state) }
 {
-    let parts = sim.spec().verified().object().parts();
+    let parts = sim.spec().verified_object().object().parts();
     let happening = what_happened(before, sim);
     let step = Step { before, sim };
     put_columns(out, &step, happening)?;

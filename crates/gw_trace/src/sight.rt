@@ -92,8 +92,8 @@ impl Sight {
             choice: next_choice(sim),
             live: sim.live(),
             future_events: sim.future_events(),
-            delayed: sim.delayed(),
-            retrying: sim.retrying(),
+            delayed: sim.delayed_len(),
+            retrying: sim.retry_len(),
         }
     }
 }

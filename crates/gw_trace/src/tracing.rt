@@ -10,7 +10,7 @@ ghost use Rattle.gw_trace.specs.Trace.{sight_line, window_line, heading, Answers
 use crate::line::put_line;
 use crate::sight::Sight;
 use gw_answers::status::ENDED;
-use gw_answers::{Answer, BUDGET, NoJob, refused};
+use gw_answers::{Answer, BUDGET, NoJob, answer_refusal};
 use gw_model_jobs::{Time, is_over, spec_of_text};
 use gw_object::Memory;
 use gw_report::text::put;
@@ -125,7 +125,7 @@ pub fn trace(alloc: Global, text: &[u8], from: i64, to: i64) -> Result<Answer, M
     };
     match spec_of_text(alloc, text) {
         Ok(spec) => trace_of_job(alloc, spec, window),
-        Err(NoJob::Refused(refusal)) => refused(alloc, refusal),
+        Err(NoJob::Refused(refusal)) => answer_refusal(alloc, refusal),
         Err(NoJob::OutOfMemory) => Err(Memory),
     }
 }

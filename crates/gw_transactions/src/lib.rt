@@ -185,7 +185,7 @@ impl Transactions {
     }
 
     /// The parameters of a transaction that is still to be made, none of which is set.
-    pub fn unset(&self) -> &Parameters
+    pub fn no_parameters(&self) -> &Parameters
         ensures { result.now ≡ none_of self.now.last }
     {
         &self.unset

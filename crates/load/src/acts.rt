@@ -60,9 +60,9 @@ fn submit_beside<R: Ledger, S: Ledger, W: Wait>(
     diary: &mut Diary,
 ) -> Result<(), Memory> {
     let spec = sample.spec.share()?;
-    let before = diary.running(&service.table().lock(rt), samples, slice, user);
+    let before = diary.running_jobs(&service.table().lock(rt), samples, slice, user);
     let submitted = submit(rt, alloc, service.table(), user, spec);
-    let after = diary.running(&service.table().lock(rt), samples, slice, user);
+    let after = diary.running_jobs(&service.table().lock(rt), samples, slice, user);
     note_submit(diary, user, number, sample, submitted, before, after)
 }
 
@@ -78,7 +78,7 @@ fn submit_in_hand<R: Ledger, S: Ledger>(
     diary: &mut Diary,
 ) -> Result<(), Memory> {
     let spec = sample.spec.share()?;
-    let running = diary.running(table, samples, slice, user);
+    let running = diary.running_jobs(table, samples, slice, user);
     let submitted = table.submit(alloc, user, spec);
     note_submit(diary, user, number, sample, submitted, running, running)
 }

@@ -69,7 +69,7 @@ impl Diary {
     }
 
     /// How many jobs of a user run.
-    pub fn running<R: Ledger, S: Ledger>(
+    pub fn running_jobs<R: Ledger, S: Ledger>(
         &mut self,
         table: &Shared<R, S>,
         samples: &[Sample],

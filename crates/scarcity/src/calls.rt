@@ -31,7 +31,7 @@ pub fn model_of(alloc: Global, text: &[u8], refusals: &mut Refusals) -> Result<M
 }
 
 /// The accepted object that a text becomes.
-pub fn assembled(alloc: Global, model: &Model, refusals: &mut Refusals) -> Result<Verified, Fault> {
+pub fn assemble_model(alloc: Global, model: &Model, refusals: &mut Refusals) -> Result<Verified, Fault> {
     let first = assemble(alloc, model);
     if !lacks_memory(&first) {
         return first;
@@ -68,7 +68,7 @@ pub fn object_of(alloc: Global, bytes: &[u8], refusals: &mut Refusals) -> Result
 }
 
 /// The object, accepted.
-pub fn verified(alloc: Global, object: Object, refusals: &mut Refusals) -> Result<Verified, Fault> {
+pub fn verify_object(alloc: Global, object: Object, refusals: &mut Refusals) -> Result<Verified, Fault> {
     match verify(alloc, object) {
         Ok(verified) => Ok(verified),
         Err((object, fault)) => {
@@ -110,7 +110,7 @@ pub fn job_of(alloc: Global, verified: Verified, refusals: &mut Refusals) -> Res
 }
 
 /// The job before its first step.
-pub fn started(alloc: Global, spec: Spec, refusals: &mut Refusals) -> Result<Sim, Memory> {
+pub fn start_job(alloc: Global, spec: Spec, refusals: &mut Refusals) -> Result<Sim, Memory> {
     match Sim::start(alloc, spec) {
         Ok(sim) => Ok(sim),
         Err((spec, _)) => {
@@ -165,7 +165,7 @@ fn step(sim: &mut Sim, refusals: &mut Refusals) -> Result<Status, Memory> {
 }
 
 /// Makes steps until a named end stands.
-pub fn ended(sim: &mut Sim, refusals: &mut Refusals) -> Result<(), Memory> {
+pub fn run_to_end(sim: &mut Sim, refusals: &mut Refusals) -> Result<(), Memory> {
     let mut status = sim.status();
     for _ in 0..BUDGET {
         if status != Status::Running {
@@ -177,7 +177,7 @@ pub fn ended(sim: &mut Sim, refusals: &mut Refusals) -> Result<(), Memory> {
 }
 
 /// The report of a job.
-pub fn reported(alloc: Global, sim: &Sim, refusals: &mut Refusals) -> Result<Vec<u8>, Memory> {
+pub fn write_report(alloc: Global, sim: &Sim, refusals: &mut Refusals) -> Result<Vec<u8>, Memory> {
     match report(alloc, sim) {
         Ok(text) => Ok(text),
         Err(_) => {

@@ -6,7 +6,7 @@
 mod calls;
 mod refusals;
 
-use calls::{assembled, bytes_of, ended, job_of, model_of, object_of, reported, started, verified};
+use calls::{assemble_model, bytes_of, run_to_end, job_of, model_of, object_of, write_report, start_job, verify_object};
 use gw_object::Memory;
 use gw_rules::Verified;
 use gw_scan::Sim;
@@ -18,8 +18,8 @@ use std::{env, fs, io};
 
 /// The report of a job that was started, once it has ended.
 fn report_of_sim(alloc: Global, sim: &mut Sim, refusals: &mut Refusals) -> Result<Vec<u8>, Memory> {
-    ended(sim, refusals)?;
-    reported(alloc, sim, refusals)
+    run_to_end(sim, refusals)?;
+    write_report(alloc, sim, refusals)
 }
 
 /// The report of an accepted object.
@@ -29,7 +29,7 @@ fn report_of_verified(
     refusals: &mut Refusals,
 ) -> Result<Vec<u8>, Memory> {
     let spec = job_of(alloc, verified, refusals)?;
-    let mut sim = started(alloc, spec, refusals)?;
+    let mut sim = start_job(alloc, spec, refusals)?;
     let report = report_of_sim(alloc, &mut sim, refusals);
     drop(sim);
     report
@@ -42,14 +42,14 @@ fn report_of_bytes(
     refusals: &mut Refusals,
 ) -> Result<Vec<u8>, Memory> {
     let object = object_of(alloc, bytes, refusals).ok().ok_or(Memory)?;
-    let verified = verified(alloc, object, refusals).ok().ok_or(Memory)?;
+    let verified = verify_object(alloc, object, refusals).ok().ok_or(Memory)?;
     report_of_verified(alloc, verified, refusals)
 }
 
 /// The spelling of the object that a text becomes. A text that is refused has none.
 fn bytes_of_text(alloc: Global, text: &[u8], refusals: &mut Refusals) -> Result<Vec<u8>, Memory> {
     let model = model_of(alloc, text, refusals).ok().ok_or(Memory)?;
-    let assembled = assembled(alloc, &model, refusals);
+    let assembled = assemble_model(alloc, &model, refusals);
     drop(model);
     let verified = assembled.ok().ok_or(Memory)?;
     let bytes = bytes_of(alloc, verified.object(), refusals);

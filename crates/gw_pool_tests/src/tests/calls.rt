@@ -43,8 +43,8 @@ fn parts_of(returned: &Returned) -> Told {
         returned.slot(),
         returned.user(),
         returned.steps(),
-        returned.ended(),
-        returned.cancelled(),
+        returned.is_ended(),
+        returned.is_cancelled(),
     )
 }
 

@@ -13,4 +13,4 @@ returns c =
     IfOk-equal c.put.result _ _ _ c.put.ensures
     (chain3 _ _ _ (text_at (800 + part_of_length 6200 c.args.i classes + 6200 / classes / 2) (floor_of c.args.plot + 160) (codes " text-anchor=\"middle\""))
     (limit_text c.args.table.now classes c.args.i) (codes "</text>\n")
-    (rw (c.scaled.ensures.value, c.floor_of.ensures.value) at c.in_ok-put_text_at.ensures) c.in_ok-put_limit_text.ensures)
+    (rw (c.part_of_length.ensures.value, c.floor_of.ensures.value) at c.in_ok-put_text_at.ensures) c.in_ok-put_limit_text.ensures)

@@ -11,7 +11,7 @@ shown-requires-clause-sampled c =
     let seen = c.in_ok-seen.ensures in
     seen_of (λ (j : Job) (w : Window). AreSamples j w c.in_ok-seen.seen.rows.items) c.args.sim.now.job c.run_to_end.new.sim.job c.args.end.0
     c.run_to_end.new.sim.state.steps c.run_to_end.new.sim.state c.args.window (ran.job ∙ seen.job) c.requires.end ran.alone ran.over
-    (rw c.clipped.ensures at seen.sampled)
+    (rw c.clip.ensures at seen.sampled)
 
 pub shown-requires-clause-between : goal.shown-requires-clause-between
 shown-requires-clause-between c =
@@ -19,4 +19,4 @@ shown-requires-clause-between c =
     let seen = c.in_ok-seen.ensures in
     seen_of (λ (j : Job) (w : Window). AreAllBands j w c.in_ok-seen.seen.bands.items) c.args.sim.now.job c.run_to_end.new.sim.job c.args.end.0
     c.run_to_end.new.sim.state.steps c.run_to_end.new.sim.state c.args.window (ran.job ∙ seen.job) c.requires.end ran.alone ran.over
-    (rw c.clipped.ensures at seen.between)
+    (rw c.clip.ensures at seen.between)

@@ -13,5 +13,5 @@ returns c =
     IfOk-equal c.put_tenths-3.result _ _ _ (rw c.least_at.ensures at c.put_tenths-3.ensures)
     (chain6 _ _ _ _ _ _ (codes "M") (tenths (800 + part_of_length 6200 (2 * c.args.moment + 1) 998)) (codes " ")
     (tenths (height_at plot axis c.args.band.greatest)) (codes "V") (tenths (height_at plot axis c.args.band.least))
-    c.in_ok-put.ensures (rw c.scaled.ensures.value at c.in_ok-put_tenths.ensures) c.in_ok-put-2.ensures
+    c.in_ok-put.ensures (rw c.part_of_length.ensures.value at c.in_ok-put_tenths.ensures) c.in_ok-put-2.ensures
     (rw c.greatest_at.ensures at c.in_ok-put_tenths-2.ensures) c.in_ok-put-3.ensures)

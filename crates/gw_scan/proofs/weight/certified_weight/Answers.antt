@@ -22,7 +22,7 @@ weight-is c =
       machine_weight-is p m c.transactions.ensures.resides c.requires.whole,
       c.weight_of_all-all.ensures.value,
       c.weight_owed-owed.ensures.value,
-      ap (λ scheduled. sum (tabulate (owed_weight p scheduled) (length scheduled))) c.scheduled.ensures,
+      ap (λ scheduled. sum (tabulate (owed_weight p scheduled) (length scheduled))) c.arrivals.ensures,
       ap (λ (ts : Population). sum_by (weight_in p) ts.txs) c.transactions.ensures.transactions,
     )
 

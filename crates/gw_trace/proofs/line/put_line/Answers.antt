@@ -15,7 +15,7 @@ returns c =
     let what = c.what_happened-happening.result in
     let parts = c.parts-parts.result.now in
     let is = c.what_happened-happening.ensures in
-    let same = c.parts-parts.ensures.value ∙ c.object.ensures.value ∙ c.verified.ensures.value ∙ ap (λ (j : Job). j.parts) c.spec.ensures in
+    let same = c.parts-parts.ensures.value ∙ c.object.ensures.value ∙ c.verified_object.ensures.value ∙ ap (λ (j : Job). j.parts) c.spec.ensures in
     IfOk-equal c.put_words.result _ _ _ c.put_words.ensures
     (ap (λ (xs : List ℕ). xs ++ words parts before after what) c.in_ok-put_columns.ensures
     ∙ append_assoc out (columns before after what) (words parts before after what)

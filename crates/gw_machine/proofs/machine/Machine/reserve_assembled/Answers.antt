@@ -3,5 +3,5 @@ use Rattle.gw_machine.proofs.AtRest.{few-retry}
 use Rattle.gw_machine.specs.Shown.{configuration_of}
 use Rattle.gw_machine.proofs.machine.Machine.reserve_assembled.Goals as goal
 
-pub overflow_add-retrying : goal.overflow_add-retrying
-overflow_add-retrying c = omega (arith, few-retry (configuration_of c.self.inside) c.self.invariant.0)
+pub overflow_add-retry_len : goal.overflow_add-retry_len
+overflow_add-retry_len c = omega (arith, few-retry (configuration_of c.self.inside) c.self.invariant.0)

@@ -20,8 +20,8 @@ can c =
 pub eval-requires-clause-can : goal.eval-requires-clause-can
 eval-requires-clause-can c = can (goal.at.eval-requires-clause-can c).After-env
 
-pub kept-requires : goal.kept-requires
-kept-requires c =
+pub kept_value-requires : goal.kept_value-requires
+kept_value-requires c =
     let p = c.args.verified.now in
     may_read_kept p c.env-in_default.result (environment_for c.args.subject (state_of c.args.self.now)) c.env-in_default.ensures.same (c.env-in_default.ensures.own p c.requires.own) c.args.source c.requires.holds c.requires.set c.in_default.not-Random c.in_default.not-Procedure
 

@@ -16,13 +16,13 @@ counts : (c : goal.In-Ok-try_clone) → (0 < c.count_or-count.result) × (c.coun
 counts c =
     let e : c.count_or-count.result ≡ count_or c.args.count c.args.self.now.parts.count = search rules in
     let range = in_range c.args.seeds.now c.args.count c.args.self.now.budget (none c) in
-    let limits = c.verified.ensures.fits.spelled.limits in
+    let limits = c.verified_object.ensures.fits.spelled.limits in
     subst (λ (n : ℕ). (0 < n) × (n ≤ 2 ^ 40)) (sym e) (count-within c.args.count c.args.self.now.parts.count range.1 limits.count_least limits.count_most)
 
 -- the job of the same object
 fits : (c : goal.In-Ok-try_clone) → JobFits (record { parts = c.args.self.now.parts; streams = c.streams_of-streams.result; count = c.count_or-count.result; budget = c.args.self.now.budget })
 fits c =
-    let j = c.verified.ensures.fits in
+    let j = c.verified_object.ensures.fits in
     let seeds = seeds_or c.args.seeds.now c.args.self.now.parts.seeds in
     let range = in_range c.args.seeds.now c.args.count c.args.self.now.budget (none c) in
     let within = seeds-within c.args.seeds.now c.args.self.now.parts.seeds range.0 j.spelled.limits.each_seed in

@@ -2,7 +2,7 @@ use Rattle.std.proofs.Common.{[], length, ap, sym, ◌∙◌}
 use Rattle.gw_chains.specs.Waiting.{Walked}
 use Rattle.gw_members.proofs.Each.{here}
 use Rattle.gw_chains.proofs.Waiting.{list_of}
-use Rattle.gw_chains.proofs.waits.Waits.waiting.Goals as goal
+use Rattle.gw_chains.proofs.waits.Waits.waiting_len.Goals as goal
 
 pub returns : goal.returns
 returns c =
