@@ -3,7 +3,7 @@
 use gw_assemble::assemble;
 use gw_forms::find_form;
 use gw_object::{Fault, Place, codes};
-use gw_sources::sources;
+use gw_source_lines::sources;
 use gw_text::{Model, parse};
 use std::alloc::{AllocError, Global};
 

@@ -1,7 +1,7 @@
 -- Texts that begin with others.
 use Rattle.std.proofs.Common.{◌≡◌, ℕ, List, ◌++◌, subst, ap, ◌∙◌}
 use Rattle.gw_object.specs.declared.fault.Fault.{Fault}
-use Rattle.gw_sources.specs.Sites.{Sites}
+use Rattle.gw_source_lines.specs.Sites.{Sites}
 use Rattle.gw_explain.specs.Shown.{shown_lines}
 use Rattle.gw_explain.specs.Marks.{AddsMarks}
 use Rattle.gw_explain.specs.Codes.{advice_lines}

@@ -5,7 +5,7 @@ use Rattle.std.specs.Fmt.{decimal}
 use Rattle.std.specs.List.{flat_map}
 use Rattle.gw_object.specs.declared.fault.Place.{Place}
 use Rattle.gw_object.specs.declared.fault.Place.TheVariants.{Byte, Entity, Code, Row, Block, Edge, Chain, Line, Nowhere}
-use Rattle.gw_sources.specs.Sites.{Sites}
+use Rattle.gw_source_lines.specs.Sites.{Sites}
 use Rattle.gw_explain.specs.declared.lines.Text.{Text}
 
 -- LINES

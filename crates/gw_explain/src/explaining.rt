@@ -3,7 +3,7 @@
 ghost use Rattle.std.specs.Prelude.{◌≡◌, IfOk, OnOk};
 ghost use Rattle.gw_answers.specs.Status.{end_status as ended_status, refusal_status};
 ghost use Rattle.gw_answers.specs.Answer.{accepted_line};
-ghost use Rattle.gw_sources.specs.Sites.{no_sites, sites_told};
+ghost use Rattle.gw_source_lines.specs.Sites.{no_sites, sites_told};
 ghost use Rattle.gw_explain.specs.Explanation.{AddsFault, Begins, ExplainsModelRefusal, ExplainsRefusal};
 ghost use Rattle.gw_explain.specs.Explanation.{IsExplained, IsExplainedModel, IsExplainedText};
 
@@ -17,7 +17,7 @@ use gw_answers::{Answer, Refusal, answer_acceptance, answer_refusal};
 use gw_assemble::assemble;
 use gw_object::{Fault, Memory, codes};
 use gw_rules::Verified;
-use gw_sources::{Sources, is_object, sources};
+use gw_source_lines::{Sources, is_object, sources};
 use gw_text::{Model, parse};
 use gw_text_tokens::lines::lines_of;
 use std::alloc::Global;

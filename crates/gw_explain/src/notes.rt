@@ -5,7 +5,7 @@ use gw_assemble::assemble;
 use gw_notes::{Note, notes};
 use gw_object::{Entity, Kind, Memory, Parts};
 use gw_report::text::{put, put_number};
-use gw_sources::{Sources, sources};
+use gw_source_lines::{Sources, sources};
 use gw_text::{Model, parse};
 use std::alloc::Global;
 

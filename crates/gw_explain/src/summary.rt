@@ -4,7 +4,7 @@ use crate::notes::put_notes;
 use gw_object::{Entity, Kind, Memory, Parts};
 use gw_report::text::{put, put_number};
 use gw_rules::Verified;
-use gw_sources::{Sources, sources};
+use gw_source_lines::{Sources, sources};
 use gw_text::Model;
 use std::alloc::Global;
 

@@ -8,8 +8,8 @@ use Rattle.std.proofs.lemmas.Option.{get_or_from_slice_get}
 use Rattle.gw_step.specs.State.{State}
 use Rattle.gw_step.specs.Job.{Job, JobFits, Progress, IsReached, after, start_of}
 use Rattle.gw_step.proofs.Rests.{start_steps}
-use Rattle.gw_same.specs.Jobs.{same_job}
-use Rattle.gw_same.proofs.Jobs.{job_apart}
+use Rattle.gw_equality.specs.Jobs.{same_job}
+use Rattle.gw_equality.proofs.Jobs.{job_apart}
 use Rattle.gw_jobs.specs.declared.journal.StoredEvent.{StoredEvent}
 use Rattle.gw_jobs.specs.declared.journal.StoredEvent.TheVariants as stored
 use Rattle.gw_jobs.specs.Journal.{submits_in}

@@ -3,7 +3,7 @@ use Rattle.std.specs.Prelude.{ℕ, ◌+◌, List, [], ◌∷◌, ◌++◌, lengt
 use Rattle.std.specs.Fmt.{decimal}
 use Rattle.gw_code.specs.declared.parts.Procedure.{Procedure}
 use Rattle.gw_object.specs.declared.parts.Parts.{Parts}
-use Rattle.gw_sources.specs.Sites.{Sites}
+use Rattle.gw_source_lines.specs.Sites.{Sites}
 use Rattle.gw_listing.specs.Lines.{Opening, Whole, Front, openings_below}
 
 -- a word and a number, where there is one

@@ -2,7 +2,7 @@
 
 ghost use Rattle.std.specs.Prelude.{◌≡◌, IfOk};
 ghost use Rattle.gw_answers.specs.Status.{end_status};
-ghost use Rattle.gw_sources.specs.Sites.{sites_of, sites_told};
+ghost use Rattle.gw_source_lines.specs.Sites.{sites_of, sites_told};
 ghost use Rattle.gw_listing.specs.Listing.{IsListingOf, TellsRefusal, IsListedObject, IsListedModel, IsListedText, IsListed};
 
 use crate::parts::listing_of;
@@ -11,7 +11,7 @@ use gw_answers::{Answer, NoJob, Refusal, accepted_in, answer_refusal};
 use gw_assemble::assemble;
 use gw_object::{Fault, Memory, codes};
 use gw_rules::Verified;
-use gw_sources::{Sources, is_object, sources};
+use gw_source_lines::{Sources, is_object, sources};
 use gw_text::{Model, parse};
 use std::alloc::Global;
 

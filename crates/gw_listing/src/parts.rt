@@ -1,7 +1,7 @@
 //! The lines of an object, part by part.
 
 ghost use Rattle.std.specs.Prelude.{slice_get, IfOk};
-ghost use Rattle.gw_sources.specs.Sites.{sites_told};
+ghost use Rattle.gw_source_lines.specs.Sites.{sites_told};
 ghost use Rattle.gw_listing.specs.Lines.{Whole, PutsLines};
 ghost use Rattle.gw_listing.specs.Listing.{IsListingOf};
 ghost use Rattle.gw_listing.specs.Shape.{procedure_openings, procedures_openings};
@@ -12,7 +12,7 @@ use crate::sections::{Section, put_section};
 use gw_code::Procedure;
 use gw_object::{Memory, Parts};
 use gw_report::text::{put, put_number};
-use gw_sources::Sources;
+use gw_source_lines::Sources;
 use std::alloc::Global;
 
 /// What a procedure takes, and its instructions, if it is there.

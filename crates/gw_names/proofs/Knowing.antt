@@ -5,7 +5,7 @@ use Rattle.std.specs.List.{position_from}
 use Rattle.std.specs.Str.{bytes_eq}
 use Rattle.gw_rules.specs.declared.entities.EntityKind.{EntityKind}
 use Rattle.gw_text.specs.declared.model.Statement.{Statement}
-use Rattle.gw_uses.specs.Sites.{Mentioned, mentioned_in}
+use Rattle.gw_name_uses.specs.Sites.{Mentioned, mentioned_in}
 use Rattle.gw_names.specs.declared.known.Known.{Known}
 use Rattle.gw_names.specs.declared.ledger.Noted.{Noted}
 use Rattle.gw_names.specs.Known.{Key, key, is_same, entity_of}

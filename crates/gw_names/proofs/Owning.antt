@@ -8,7 +8,7 @@ use Rattle.std.proofs.lemmas.List.{append-nil}
 use Rattle.std.proofs.lemmas.Bool.{false≢true}
 use Rattle.std.proofs.lemmas.Slice.Eq.{bytes_eq-Decides}
 use Rattle.gw_text.specs.declared.model.Statement.{Statement}
-use Rattle.gw_uses.specs.Sites.{Mentioned, mentioned_in}
+use Rattle.gw_name_uses.specs.Sites.{Mentioned, mentioned_in}
 use Rattle.gw_names.specs.Known.{Key, is_same, is_same_kind}
 use Rattle.gw_names.specs.Sights.{number_among, parameter_of, parameters_of, is_used, unless_used, free_up_to, free_numbers}
 use Rattle.gw_names.specs.Laws.{IsFree}

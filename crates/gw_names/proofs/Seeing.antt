@@ -9,7 +9,7 @@ use Rattle.std.specs.Cmp.Lexicographic.{nat_list_eq_equiv}
 use Rattle.std.proofs.lemmas.Bool.{false≢true}
 use Rattle.gw_rules.specs.declared.entities.EntityKind.{EntityKind}
 use Rattle.gw_rules.specs.declared.entities.EntityKind.TheVariants as kinds
-use Rattle.gw_uses.specs.Mentions.{Mention}
+use Rattle.gw_name_uses.specs.Mentions.{Mention}
 use Rattle.gw_names.specs.declared.entities.ByKind.{ByKind}
 use Rattle.gw_names.specs.declared.sights.Sighted.{Sighted}
 use Rattle.gw_names.specs.Codes.{limit_fault}

@@ -6,9 +6,9 @@ use Rattle.gw_rules.specs.declared.entities.EntityKind.TheVariants as kinds
 use Rattle.gw_text.specs.declared.model.Body.{Body}
 use Rattle.gw_text.specs.declared.model.Body.TheVariants as bodies
 use Rattle.gw_text.specs.declared.model.Statement.{Statement}
-use Rattle.gw_uses.specs.Mentions.{Mention, Entity, Parameter, ParameterNumber, Label, Equ, Call, Target}
-use Rattle.gw_uses.specs.declared.sites.Site.{Site}
-use Rattle.gw_uses.specs.Sites.{Mentioned, mention_at, mentioned_in}
+use Rattle.gw_name_uses.specs.Mentions.{Mention, Entity, Parameter, ParameterNumber, Label, Equ, Call, Target}
+use Rattle.gw_name_uses.specs.declared.sites.Site.{Site}
+use Rattle.gw_name_uses.specs.Sites.{Mentioned, mention_at, mentioned_in}
 use Rattle.gw_names.specs.declared.ledger.Noted.{Noted}
 use Rattle.gw_names.specs.declared.known.Known.{Known}
 use Rattle.gw_names.specs.Codes.{name_fault, storage_fault}

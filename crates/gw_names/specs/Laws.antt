@@ -2,7 +2,7 @@
 use Rattle.std.specs.Prelude.{◌≡◌, ℕ, ◌≤◌, List, Some, None, true, false}
 use Rattle.std.specs.List.{All, slice_get}
 use Rattle.gw_text.specs.declared.model.Statement.{Statement}
-use Rattle.gw_uses.specs.Sites.{mentioned_in}
+use Rattle.gw_name_uses.specs.Sites.{mentioned_in}
 use Rattle.gw_names.specs.declared.ledger.Noted.{Noted}
 use Rattle.gw_names.specs.declared.known.Known.{Known}
 use Rattle.gw_names.specs.Ledger.{is_before, with_notes}

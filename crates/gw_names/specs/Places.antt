@@ -14,7 +14,7 @@ use Rattle.gw_text_statements.specs.declared.model.Operand.TheVariants as operan
 use Rattle.gw_text.specs.declared.model.Body.{Body}
 use Rattle.gw_text.specs.declared.model.Body.TheVariants as bodies
 use Rattle.gw_text.specs.declared.model.Statement.{Statement}
-use Rattle.gw_uses.specs.Statements.{declared_kind}
+use Rattle.gw_name_uses.specs.Statements.{declared_kind}
 use Rattle.gw_names.specs.declared.entities.ByKind.{ByKind}
 use Rattle.gw_names.specs.declared.places.Places.{Places}
 use Rattle.gw_names.specs.Known.{Finds, Key, key, is_same, found_in, entity_of}

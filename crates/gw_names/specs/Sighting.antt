@@ -6,10 +6,10 @@ use Rattle.std.specs.Str.{bytes_eq}
 use Rattle.std.specs.declared.string.String.{String}
 use Rattle.indexmap.specs.IndexMap.{IndexMap, keys}
 use Rattle.gw_rules.specs.declared.entities.EntityKind.{EntityKind}
-use Rattle.gw_uses.specs.declared.sites.Site.{Site}
-use Rattle.gw_uses.specs.declared.uses.Use.{Use}
-use Rattle.gw_uses.specs.Mentions.{mention}
-use Rattle.gw_uses.specs.Sites.{mention_at}
+use Rattle.gw_name_uses.specs.declared.sites.Site.{Site}
+use Rattle.gw_name_uses.specs.declared.uses.Use.{Use}
+use Rattle.gw_name_uses.specs.Mentions.{mention}
+use Rattle.gw_name_uses.specs.Sites.{mention_at}
 use Rattle.gw_names.specs.declared.entities.ByKind.{ByKind}
 use Rattle.gw_names.specs.declared.ledger.Ledger.{Ledger}
 use Rattle.gw_names.specs.declared.sights.Sighted.{Sighted}

@@ -3,8 +3,8 @@ use Rattle.std.specs.Prelude.{ℕ, zero, suc, List, [], ◌∷◌, ◌++◌, len
 use Rattle.std.specs.List.{list_any, position_from}
 use Rattle.std.specs.Str.{bytes_eq}
 use Rattle.gw_text.specs.declared.model.Statement.{Statement}
-use Rattle.gw_uses.specs.Mentions.{Mention, Entity, Parameter, ParameterNumber, Label, Equ, Call, Target}
-use Rattle.gw_uses.specs.Sites.{Mentioned, mentioned_in}
+use Rattle.gw_name_uses.specs.Mentions.{Mention, Entity, Parameter, ParameterNumber, Label, Equ, Call, Target}
+use Rattle.gw_name_uses.specs.Sites.{Mentioned, mentioned_in}
 use Rattle.gw_names.specs.declared.ledger.Noted.{Noted}
 use Rattle.gw_names.specs.Codes.{limit_fault}
 use Rattle.gw_names.specs.Ledger.{noted_at}

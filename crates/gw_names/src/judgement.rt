@@ -1,7 +1,7 @@
 //! Whether what a text uses is there.
 
 ghost use Rattle.std.specs.Prelude.{◌≡◌, OnOk, OnErr};
-ghost use Rattle.gw_uses.specs.Sites.{mention_at};
+ghost use Rattle.gw_name_uses.specs.Sites.{mention_at};
 ghost use Rattle.gw_names.specs.Ledger.{Notes};
 ghost use Rattle.gw_names.specs.Judgement as model;
 ghost use Rattle.gw_names.specs.Judgement.{declared_by, fault_at, refusals_at, refusals_by};
@@ -13,7 +13,7 @@ use crate::ledger::{Ledger, note_if};
 use crate::maps::value_of_name;
 use gw_rules::EntityKind;
 use gw_text::{Body, Statement};
-use gw_uses::{Site, Use, uses_in};
+use gw_name_uses::{Site, Use, uses_in};
 use std::alloc::{AllocError, Global};
 
 /// How an entity is refused that nothing declares: 80 Name where its kind has to be declared, and 81 Storage for a storage.

@@ -18,7 +18,7 @@ mod sights;
 
 pub use declarations::is_equ;
 pub use entities::{ByKind, Declarations, EntityNames};
-pub use gw_uses::{Use, put_uses, put_uses_of_operand, put_uses_of_procedure};
+pub use gw_name_uses::{Use, put_uses, put_uses_of_operand, put_uses_of_procedure};
 pub use judgement::check_uses;
 pub use known::{Known, known_names};
 pub use ledger::{Ledger, Noted};

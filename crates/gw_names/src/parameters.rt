@@ -1,8 +1,8 @@
 //! The numbers of parameters that have names.
 
 ghost use Rattle.std.specs.Prelude.{◌≡◌, ◌<◌, ◌++◌, None, Some, length, map, slice_get, OnOk, IfOk, string_bytes};
-ghost use Rattle.gw_uses.specs.Mentions.{mention};
-ghost use Rattle.gw_uses.specs.Sites.{mention_at};
+ghost use Rattle.gw_name_uses.specs.Mentions.{mention};
+ghost use Rattle.gw_name_uses.specs.Sites.{mention_at};
 ghost use Rattle.gw_names.specs.Known.{found_in};
 ghost use Rattle.gw_names.specs.Ledger.{Notes};
 ghost use Rattle.gw_names.specs.Sights as model;
@@ -13,7 +13,7 @@ ghost use Rattle.gw_names.specs.Sighting.{RefusesName, RefusesNameIn, RefusesNam
 use crate::codes;
 use crate::ledger::Ledger;
 use crate::maps::value_of_name;
-use gw_uses::{Site, Use};
+use gw_name_uses::{Site, Use};
 use indexmap::IndexMap;
 use std::alloc::{AllocError, Global};
 

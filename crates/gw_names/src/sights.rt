@@ -9,7 +9,7 @@ use crate::codes;
 use crate::entities::{Declarations, EntityNames};
 use crate::ledger::Ledger;
 use gw_rules::EntityKind;
-use gw_uses::{Site, Use};
+use gw_name_uses::{Site, Use};
 use std::alloc::AllocError;
 
 /// The most entities of an object.

@@ -15,9 +15,9 @@ use Rattle.gw_blocks.specs.declared.parts.Operand.TheVariants as parts
 use Rattle.gw_text_statements.specs.declared.model.Operand.{Operand as Text}
 use Rattle.gw_text_statements.specs.declared.model.Operand.TheVariants as texts
 use Rattle.gw_text_tokens.specs.declared.words.Word.TheVariants as words
-use Rattle.gw_records.specs.Entities.{kind_of, points_in}
-use Rattle.gw_records.specs.Operands.{whole_in, number_in as number_in_text}
-use Rattle.gw_records.specs.Records.{of_two, of_three}
+use Rattle.gw_object_records.specs.Entities.{kind_of, points_in}
+use Rattle.gw_object_records.specs.Operands.{whole_in, number_in as number_in_text}
+use Rattle.gw_object_records.specs.Records.{of_two, of_three}
 use Rattle.gw_pieces.specs.Numbers.{with_source}
 use Rattle.gw_object.specs.Grammar.{HasSpelling}
 use Rattle.gw_code.specs.declared.parts.Procedure.{Procedure}

@@ -3,7 +3,7 @@ use Rattle.std.specs.Prelude.{◌≡◌, ℕ, ◌+◌, List, [], ◌∷◌, ◌+
 use Rattle.gw_blocks.specs.declared.parts.Block.{Block}
 use Rattle.gw_text.specs.declared.model.Statement.{Statement}
 use Rattle.gw_compile.specs.Numbers.{Numbers}
-use Rattle.gw_records.specs.Records.{record_of}
+use Rattle.gw_object_records.specs.Records.{record_of}
 use Rattle.gw_pieces.specs.declared.origins.Origin.{Origin}
 use Rattle.gw_pieces.specs.Origins.{numbers_for}
 use Rattle.gw_text_tokens.specs.Words.{is_block}

@@ -18,7 +18,7 @@ use Rattle.gw_text_tokens.specs.declared.words.Word.{Word}
 use Rattle.gw_text_tokens.specs.declared.words.Word.TheVariants as words
 use Rattle.gw_text.specs.declared.model.Statement.{Statement}
 use Rattle.gw_compile.specs.Numbers.{Numbers}
-use Rattle.gw_records.specs.Entities.{entity_kind}
+use Rattle.gw_object_records.specs.Entities.{entity_kind}
 use Rattle.gw_names.specs.Known.{Key, found_in}
 use Rattle.gw_names.specs.declared.sights.Sighted.{Sighted}
 use Rattle.gw_names.specs.Places.{last_of, declaration_of}

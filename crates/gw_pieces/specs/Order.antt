@@ -16,7 +16,7 @@ use Rattle.gw_text.specs.declared.model.Body.{Body}
 use Rattle.gw_text.specs.declared.model.Body.TheVariants as bodies
 use Rattle.gw_text.specs.declared.model.Model.{Model}
 use Rattle.gw_text.specs.declared.model.Statement.{Statement}
-use Rattle.gw_uses.specs.Mentions.{Mention, Entity, Parameter, ParameterNumber, Label, Equ, Call, Target, in_expression, in_procedure}
+use Rattle.gw_name_uses.specs.Mentions.{Mention, Entity, Parameter, ParameterNumber, Label, Equ, Call, Target, in_expression, in_procedure}
 use Rattle.gw_names.specs.declared.known.Known.{Known}
 use Rattle.gw_names.specs.Known.{found_in}
 use Rattle.gw_names.specs.Judgement.{Declared, declared_in, declared_by}

@@ -24,7 +24,7 @@ use Rattle.gw_text_tokens.specs.declared.words.Word.{Word}
 use Rattle.gw_text_tokens.specs.declared.words.Word.TheVariants as words
 use Rattle.gw_text.specs.declared.model.Statement.{Statement}
 use Rattle.gw_compile.specs.declared.numbering.Equ.TheVariants as equs
-use Rattle.gw_records.specs.Entities.{entity_kind}
+use Rattle.gw_object_records.specs.Entities.{entity_kind}
 use Rattle.gw_pieces.specs.Numbers.{with_source, source_in}
 use Rattle.gw_compile.specs.Numbers.{Numbers}
 use Rattle.gw_compile.specs.Value.{value_of}

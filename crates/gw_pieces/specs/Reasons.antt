@@ -26,7 +26,7 @@ use Rattle.gw_names.specs.Ledger.{noted_at, with_note}
 use Rattle.gw_names.specs.Numbers.{numbers_of}
 use Rattle.gw_text_tokens.specs.Words.{is_block}
 use Rattle.gw_names.specs.Places.{declaration_of}
-use Rattle.gw_records.specs.Entities.{entity_kind}
+use Rattle.gw_object_records.specs.Entities.{entity_kind}
 use Rattle.gw_pieces.specs.declared.compiling.Blamed.{Blamed}
 use Rattle.gw_pieces.specs.declared.compiling.Blamed.TheVariants as blamed
 use Rattle.gw_pieces.specs.declared.origins.Origin.{Origin}

@@ -13,7 +13,7 @@ use crate::plan::Plan;
 use gw_blocks::Block;
 use gw_compile::{Callee, Numbering};
 use gw_names::{Ledger, Names, codes};
-use gw_records::record_of;
+use gw_object_records::record_of;
 use gw_text::{Body, Expression, Statement};
 use std::alloc::{AllocError, Global};
 

@@ -10,7 +10,7 @@ use crate::initials::Initials;
 use crate::plan::Plan;
 use gw_names::{Ledger, Sighted};
 use gw_object::{Entity, Items, Kind};
-use gw_records::kind_of;
+use gw_object_records::kind_of;
 use gw_rules::EntityKind;
 use gw_text::Statement;
 use std::alloc::{AllocError, Global};

@@ -1,7 +1,7 @@
 //! The order of the procedures: that of the text, but what one calls comes before it.
 
 ghost use Rattle.std.specs.Prelude.{◌≡◌, ◌++◌, ◌∷◌, [], OnOk, IfOk, Some, slice_get, set, true, string_bytes};
-ghost use Rattle.gw_uses.specs.Mentions.{Puts, mention, mentions};
+ghost use Rattle.gw_name_uses.specs.Mentions.{Puts, mention, mentions};
 ghost use Rattle.gw_pieces.specs.Order as model;
 ghost use Rattle.gw_pieces.specs.Order.{lookup_for, lookup_of, ordered_by};
 
@@ -9,7 +9,7 @@ use crate::origins::{Origin, expression_at, place_of, whole_call};
 use gw_names::{Known, value_of_name};
 use gw_rules::EntityKind;
 use gw_text::{Body, EntityValue, Model, Operand, Sna, Statement};
-use gw_uses::{Use, put_uses_of_operand, put_uses_of_procedure};
+use gw_name_uses::{Use, put_uses_of_operand, put_uses_of_procedure};
 use std::alloc::{AllocError, Global};
 
 /// What the order is found from.

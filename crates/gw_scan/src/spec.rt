@@ -286,8 +286,8 @@ impl Spec {
 
 impl PartialEq for Spec {
     ghost use Rattle.std.specs.Cmp.{partial_equiv_from_equiv};
-    ghost use Rattle.gw_same.specs.Jobs.{same_job};
-    ghost use Rattle.gw_same.proofs.Jobs.{job_equivalence};
+    ghost use Rattle.gw_equality.specs.Jobs.{same_job};
+    ghost use Rattle.gw_equality.proofs.Jobs.{job_equivalence};
 
     ghost eq = { same_job };
 
@@ -307,7 +307,7 @@ impl PartialEq for Spec {
 }
 
 impl Eq for Spec {
-    ghost use Rattle.gw_same.proofs.Jobs.{job_equivalence};
+    ghost use Rattle.gw_equality.proofs.Jobs.{job_equivalence};
 
     ghost laws = { job_equivalence };
 }

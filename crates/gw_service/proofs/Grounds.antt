@@ -6,7 +6,7 @@ use Rattle.std.proofs.lemmas.Bool.Decides.{nat_tests}
 use Rattle.gw_step.specs.Job.{Job}
 use Rattle.gw_service.specs.declared.faults.JobFault.{JobFault}
 use Rattle.gw_service.specs.declared.faults.JobFault.TheVariants as faults
-use Rattle.gw_same.specs.Jobs.{same_job}
+use Rattle.gw_equality.specs.Jobs.{same_job}
 use Rattle.gw_service.specs.Rows.{Standing, Ready, Out, Ended, Cancelled, CancelledOut, Row, is_out, is_cancellable, returned_row, own_row}
 use Rattle.gw_service.specs.Journal.{Service, Event, Submit, Take, Return, Cancel, with_event}
 use Rattle.gw_service.specs.Calls.{Pass, is_journal_full, admit, submit_fault, standing_fault, own_cancel_fault, journal_limit, cancel_fault, first_fault, take_from, fits_row, receipt_of, receipt_for}

@@ -4,7 +4,7 @@ use Rattle.std.specs.Prelude.{◌==◌, if◌then◌else◌, Ok, Err}
 use Rattle.std.specs.List.{slice_get}
 use Rattle.gw_step.specs.Job.{Job}
 use Rattle.gw_service.specs.declared.faults.JobFault.TheVariants as faults
-use Rattle.gw_same.specs.Jobs.{same_job}
+use Rattle.gw_equality.specs.Jobs.{same_job}
 use Rattle.gw_service.specs.Rows.{Row, own_row}
 use Rattle.gw_service.specs.Journal.{Service}
 use Rattle.gw_service.specs.Calls.{Pass, admit}

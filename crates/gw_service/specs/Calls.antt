@@ -7,7 +7,7 @@ use Rattle.gw_service.specs.declared.faults.JobFault.TheVariants as faults
 use Rattle.gw_service.specs.declared.progress.State.{State}
 use Rattle.gw_service.specs.declared.progress.State.TheVariants as states
 use Rattle.gw_service.specs.declared.progress.Progress.{Progress}
-use Rattle.gw_same.specs.Jobs.{same_job}
+use Rattle.gw_equality.specs.Jobs.{same_job}
 use Rattle.gw_service.specs.Rows.{Standing, Ready, Out, Ended, Cancelled, CancelledOut, Row, is_out, is_ended, is_cancelled, returned_row, rows_of, running_in, own_row, out_of}
 use Rattle.gw_service.specs.Journal.{Service}
 

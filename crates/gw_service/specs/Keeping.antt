@@ -4,7 +4,7 @@ use Rattle.std.specs.List.{slice_get}
 use Rattle.gw_step.specs.Residence.{occurrences}
 use Rattle.gw_step.specs.Job.{Job}
 use Rattle.gw_service.specs.declared.faults.JobFault.{JobFault}
-use Rattle.gw_same.specs.Jobs.{same_job}
+use Rattle.gw_equality.specs.Jobs.{same_job}
 use Rattle.gw_service.specs.Rows.{Standing, Ready, Out, Ended, Cancelled, CancelledOut, Row, Jobs, is_ready, is_ended, is_cancelled, is_over, rows_of, running_in, out_of, steps_of}
 use Rattle.gw_service.specs.Journal.{Event, Submit, Take, Return, Cancel, Service, new_service, IsReplayed, OfRow, HasState, MayCome, IsHistory}
 use Rattle.gw_service.specs.Calls.{Pass, row_for, places_of, most_jobs, most_running, most_events}

@@ -12,7 +12,7 @@ use Rattle.gw_answers.specs.Answer.{object_of, accepted_line}
 use Rattle.gw_answers.specs.Assembly.{IsAssembly}
 use Rattle.gw_answers.specs.declared.request.Request.TheVariants.{Run}
 use Rattle.gw_console.proofs.Outputs.{IsEnd, Ends, assembly_status, request_ends}
-use Rattle.gw_sources.specs.Sites.{no_sites, is_object}
+use Rattle.gw_source_lines.specs.Sites.{no_sites, is_object}
 use Rattle.gw_explain.specs.Explanation.{Begins, IsAdvised, IsExplainedModel, IsExplainedText, IsExplainedObject}
 use Rattle.gw_listing.specs.Listing.{IsListingOf, TellsRefusal, IsListedModel, IsListedText, IsListedObject}
 use Rattle.gw_model_jobs.specs.ModelJobs.{AnswersModel}

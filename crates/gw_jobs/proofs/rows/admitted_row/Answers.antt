@@ -1,7 +1,7 @@
 use Rattle.std.proofs.Common.{rules, ◌≡◌, true, false, Some, ℕ, length, sym, subst, refl}
 use Rattle.std.proofs.lemmas.Option.{slice_get_read}
 use Rattle.std.specs.List.{slice_get}
-use Rattle.gw_same.specs.Jobs.{same_job}
+use Rattle.gw_equality.specs.Jobs.{same_job}
 use Rattle.gw_jobs.proofs.Kept.{same_is, is_stranger}
 use Rattle.gw_jobs.proofs.rows.admitted_row.Goals as goal
 

@@ -1,5 +1,5 @@
 use Rattle.std.proofs.Common.{◌≡◌, [], map, sym, ap, ◌∙◌}
-use Rattle.gw_uses.specs.Sites.{mention_at, mentioned_in}
+use Rattle.gw_name_uses.specs.Sites.{mention_at, mentioned_in}
 use Rattle.gw_names.specs.Ledger.{with_notes}
 use Rattle.gw_names.specs.Sights.{entity_limits_after, parameter_limits_among}
 use Rattle.gw_names.specs.Sighting.{keys_of}

@@ -1,5 +1,5 @@
 use Rattle.std.proofs.Common.{◌≡◌, map, ap, ◌∙◌, arith}
-use Rattle.gw_uses.specs.Sites.{mention_at}
+use Rattle.gw_name_uses.specs.Sites.{mention_at}
 use Rattle.gw_names.specs.Sights.{free_numbers, free_up_to}
 use Rattle.gw_names.proofs.parameters.free_numbers.Goals as goal
 

@@ -1,5 +1,5 @@
 use Rattle.std.proofs.Common.{◌≡◌, map}
-use Rattle.gw_uses.specs.Sites.{mention_at}
+use Rattle.gw_name_uses.specs.Sites.{mention_at}
 use Rattle.gw_names.specs.Sights.{free_up_to}
 use Rattle.gw_names.proofs.parameters.free_numbers.Given as goal
 

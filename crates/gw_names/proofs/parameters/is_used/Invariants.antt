@@ -1,5 +1,5 @@
 use Rattle.std.proofs.Common.{◌≡◌, map, drop}
-use Rattle.gw_uses.specs.Sites.{mention_at}
+use Rattle.gw_name_uses.specs.Sites.{mention_at}
 use Rattle.gw_names.specs.Sights as model
 use Rattle.gw_names.proofs.parameters.is_used.Given as goal
 

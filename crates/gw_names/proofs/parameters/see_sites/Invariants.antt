@@ -1,5 +1,5 @@
 use Rattle.std.proofs.Common.{◌≡◌, map, drop}
-use Rattle.gw_uses.specs.Sites.{mention_at}
+use Rattle.gw_name_uses.specs.Sites.{mention_at}
 use Rattle.gw_names.specs.Ledger.{with_notes}
 use Rattle.gw_names.specs.Sights.{parameters_after, parameter_limits_after}
 use Rattle.gw_names.specs.Sighting.{HaveNumbers, names_of}

@@ -1,5 +1,5 @@
 use Rattle.std.proofs.Common.{◌∙◌, ap}
-use Rattle.gw_records.specs.Records.{record_of}
+use Rattle.gw_object_records.specs.Records.{record_of}
 use Rattle.gw_names.specs.Numbers.{numbers_of}
 use Rattle.gw_pieces.proofs.blocks.record_at.Goals as goal
 

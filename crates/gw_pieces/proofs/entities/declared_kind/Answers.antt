@@ -1,5 +1,5 @@
 use Rattle.std.proofs.Common.{◌∙◌, sym, ap}
-use Rattle.gw_records.specs.Entities.{entity_kind}
+use Rattle.gw_object_records.specs.Entities.{entity_kind}
 use Rattle.gw_pieces.specs.Notes.{unless_piece}
 use Rattle.gw_names.specs.Numbers.{numbers_of}
 use Rattle.gw_pieces.proofs.entities.declared_kind.Goals as goal

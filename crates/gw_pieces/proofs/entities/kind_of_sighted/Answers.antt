@@ -1,5 +1,5 @@
 use Rattle.std.proofs.Common.{subst, sym, refl, inl, inr, string_bytes}
-use Rattle.gw_records.specs.Entities.{entity_kind}
+use Rattle.gw_object_records.specs.Entities.{entity_kind}
 use Rattle.gw_pieces.specs.Notes.{or_missing}
 use Rattle.gw_names.specs.Numbers.{numbers_of}
 use Rattle.gw_pieces.specs.Origins.{numbers_for}

@@ -1,6 +1,6 @@
 use Rattle.std.proofs.Common.{◌≡◌, ◌++◌, drop}
 use Rattle.std.specs.List.{flat_map}
-use Rattle.gw_uses.specs.Mentions.{mentions}
+use Rattle.gw_name_uses.specs.Mentions.{mentions}
 use Rattle.gw_pieces.specs.Order.{lookup_of, place_called}
 use Rattle.gw_pieces.proofs.order.put_callees.Given as goal
 

@@ -1,7 +1,7 @@
 use Rattle.std.proofs.Common.{rules, ◌≡◌, sym, subst}
 use Rattle.std.specs.Prelude.{Decides}
-use Rattle.gw_same.specs.Jobs.{same_job}
-use Rattle.gw_same.proofs.Jobs.{job_apart}
+use Rattle.gw_equality.specs.Jobs.{same_job}
+use Rattle.gw_equality.proofs.Jobs.{job_apart}
 use Rattle.gw_scan.proofs.spec.SpecPartialEq.eq.Goals as goal
 
 pub returns-then-eq-clause-decides : goal.returns-then-eq-clause-decides
