@@ -20,7 +20,8 @@ all_of None new read taken = tt
 all_of (Some bytes) None read taken = absurd taken
 all_of (Some bytes) (Some left) read taken = taken
 
-pub batch_answered : (workers slice : ℕ) (old new : Option (List ℕ)) (es : List StoredEntry) (text : List ℕ) (status : ℕ) → words_fault workers slice ≡ None → GivesBatch es old new
+pub batch_answered : (workers slice : ℕ) (old new : Option (List ℕ)) (es : List StoredEntry) (text : List ℕ) (status : ℕ)
+    → words_fault workers slice ≡ None → GivesBatch es old new
     → IsBatchTold (map entry_of es) text status → AnswersReader (IsPool workers slice) old text status
 batch_answered workers slice old new es text status in_range given told =
     let bytes = given.read ++ left_of new in
@@ -32,12 +33,15 @@ behind_nothing : (old mid new : Option (List ℕ)) (text : List ℕ) → Keeps o
 behind_nothing old mid new text kept written = Appends-trans old mid new [] text (Appends-kept old old mid [] (Appends-nil old) kept) written
 
 -- the line on want of memory responds to a batch of which nothing was written
-pub memory_responds : (es : List Entry) (result : ℕ) (old mid new : Option (List ℕ)) → Keeps old mid → Fails Memory result mid new → RespondsToBatch es result old new
+pub memory_responds : (es : List Entry) (result : ℕ) (old mid new : Option (List ℕ)) → Keeps old mid → Fails Memory result mid new
+    → RespondsToBatch es result old new
 memory_responds es result old mid new kept (inl h) = (memory_line, no_memory, inr (refl, refl), inl (h.0, behind_nothing old mid new memory_line kept h.1))
-memory_responds es result old mid new kept (inr h) = (memory_line, no_memory, inr (refl, refl), inr (h.0, (h.1.0, h.1.1, behind_nothing old mid new _ kept h.1.2)))
+memory_responds es result old mid new kept (inr h) =
+    (memory_line, no_memory, inr (refl, refl), inr (h.0, (h.1.0, h.1.1, behind_nothing old mid new _ kept h.1.2)))
 
 -- what was written of a batch that was read is the response of `pool`
-pub batch_responds : (workers slice result : ℕ) (old new held written : Option (List ℕ)) (es : List StoredEntry) → words_fault workers slice ≡ None → GivesBatch es old new
+pub batch_responds : (workers slice result : ℕ) (old new held written : Option (List ℕ)) (es : List StoredEntry)
+    → words_fault workers slice ≡ None → GivesBatch es old new
     → RespondsToBatch (map entry_of es) result held written → Responds (IsPool workers slice) old result held written
 batch_responds workers slice result old new held written es in_range given (text, status, inl told, writes) =
     (text, status, inl (batch_answered workers slice old new es text status in_range given told), writes)
@@ -49,7 +53,8 @@ lost None new read taken rest = tt
 lost (Some bytes) None read taken rest = absurd taken
 lost (Some bytes) (Some left) read taken rest = ap (λ (bs : List ℕ). Some bs) (sym (ap (unread most_objects) taken ∙ rest))
 
-pub batch_lost : (workers slice : ℕ) (old new : Option (List ℕ)) (es : List StoredEntry) → words_fault workers slice ≡ None → GivesBatch es old new → LosesBatch workers slice old new
+pub batch_lost : (workers slice : ℕ) (old new : Option (List ℕ)) (es : List StoredEntry) → words_fault workers slice ≡ None
+    → GivesBatch es old new → LosesBatch workers slice old new
 batch_lost workers slice old new es in_range given = rw in_range (lost old new given.read given.taken given.rest)
 
 -- the refusal of the words answers every reader, and leaves it as it was

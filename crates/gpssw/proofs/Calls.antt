@@ -22,15 +22,18 @@ module _ (result : ℕ) (from to : Source) (old new : Sink) where
   Written r = MatchResult r (λ a. Writes a.text.items a.status result old.held new.held) (λ fault. Fails fault result old.held new.held)
 
   -- it says how the batch was read
-  pub of_batch : (workers slice : ℕ) → from.failed ≡ false → (r : Result Answer ProgramFault) → IfOk r (λ a. (a.status ≡ end_status) ⊎ (a.status ≡ refusal_status)) → TellsReads r from.failed to.failed
-      → OnOk r (LosesBatch workers slice from.left to.left) → LosesAtMost most_bytes_of_batch from.left to.left → Written r → EndsWith (wanted_status r) result new.failed
+  pub of_batch : (workers slice : ℕ) → from.failed ≡ false → (r : Result Answer ProgramFault)
+      → IfOk r (λ a. (a.status ≡ end_status) ⊎ (a.status ≡ refusal_status)) → TellsReads r from.failed to.failed
+      → OnOk r (LosesBatch workers slice from.left to.left) → LosesAtMost most_bytes_of_batch from.left to.left → Written r
+      → EndsWith (wanted_status r) result new.failed
       → (result ≢ failure_status → new.waits ≡ false) → TellsPoolCalls workers slice result from to old new
   unfolding TellsPoolCalls
   of_batch workers slice none r status told loses limited writes ends flushed =
       account (LosesBatch workers slice) most_bytes_of_batch result from to old new none r status told loses limited writes ends flushed
 
   -- where it was read, and what is told of it was written
-  pub of_told : (workers slice : ℕ) → from.failed ≡ false → to.failed ≡ from.failed → LosesBatch workers slice from.left to.left → LosesAtMost most_bytes_of_batch from.left to.left
+  pub of_told : (workers slice : ℕ) → from.failed ≡ false → to.failed ≡ from.failed → LosesBatch workers slice from.left to.left
+      → LosesAtMost most_bytes_of_batch from.left to.left
       → (result ≡ failure_status) ↔ IsTrue new.failed → (result ≢ failure_status → new.waits ≡ false) → TellsPoolCalls workers slice result from to old new
   unfolding TellsPoolCalls
   of_told workers slice none same loses limited told flushed = record {

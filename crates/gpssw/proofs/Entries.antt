@@ -1,5 +1,7 @@
 -- A batch, entry by entry.
-use Rattle.std.proofs.Common.{◌≡◌, ◌≢◌, ◌≤◌, ◌<◌, ◌+◌, ◌-◌, ◌*◌, ◌==◌, ℕ, zero, suc, List, [], ◌∷◌, ◌++◌, length, take, drop, map, nat_lt, Bool, true, false, Option, Some, None, IfSome, if◌then◌else◌, arith, append_assoc, append-nil, length-append, Vec, Global, refl, sym, ap, subst, ◌∙◌}
+use Rattle.std.proofs.Common.{◌≡◌, ◌≢◌, ◌≤◌, ◌<◌, ◌+◌, ◌-◌, ◌*◌, ◌==◌, ℕ, zero, suc, List, [], ◌∷◌, ◌++◌, length, take, drop, map, nat_lt, Bool, true}
+use Rattle.std.proofs.Common.{false, Option, Some, None, IfSome, if◌then◌else◌, arith, append_assoc, append-nil, length-append, Vec, Global, refl}
+use Rattle.std.proofs.Common.{sym, ap, subst, ◌∙◌}
 use Rattle.std.specs.Prelude.{not}
 use Rattle.std.proofs.lemmas.Bool.Decides.{nat_tests}
 use Rattle.std.proofs.lemmas.List.{take_at, drop_at, map-append}
@@ -13,7 +15,8 @@ use Rattle.gw_object.specs.Codes.{truncation, limit}
 use Rattle.gw_answers.specs.Service.{nowhere, service_full}
 use Rattle.gw_batch.specs.declared.entry.Entry.{Entry as StoredEntry}
 use Rattle.gw_batch.specs.declared.entry.Entry.TheVariants as stored
-use Rattle.gw_batch.specs.Batch.{Entry, Object, Broken, Front, front, entry_of, sized_front, behind_length, first_entry, surplus, next_entry, with_next, past, entries, unread, most_objects}
+use Rattle.gw_batch.specs.Batch.{Entry, Object, Broken, Front, front, entry_of, sized_front, behind_length, first_entry, surplus, next_entry}
+use Rattle.gw_batch.specs.Batch.{with_next, past, entries, unread, most_objects}
 use Rattle.gw_console.specs.Calls.{LosesAtMost}
 use Rattle.gpssw.specs.Framing.{left_of, IsFirst, surplus_entry, GivesEntry, GivesBatch}
 
@@ -25,7 +28,8 @@ at_end None end = refl
 at_end (Some bytes) end = end
 
 -- a length above the limit
-pub too_long : (n : ℕ) (old : Option (List ℕ)) → MOST_BYTES < n → GivesEntry (λ bytes. Some (sized_front n bytes)) (Some (stored.Broken (nowhere limit))) old old
+pub too_long : (n : ℕ) (old : Option (List ℕ)) → MOST_BYTES < n
+    → GivesEntry (λ bytes. Some (sized_front n bytes)) (Some (stored.Broken (nowhere limit))) old old
 too_long n old long = let test : nat_lt MOST_BYTES n ≡ true = grind (arith, nat_tests, long) in ([], Consumes-nil old, rw test refl)
 
 -- an object that is cut off
@@ -72,7 +76,8 @@ after_length bytes more four =
     let number : big_number 4 (bytes ++ more) ≡ big_number 4 bytes = big_from-append 4 bytes more (omega (arith, four)) in
     rw (full, enough, number, drop_at bytes more 4 four) refl
 
-behind_four : (bytes read left : List ℕ) (entry : Option StoredEntry) → length bytes ≡ 4 → IsFirst (λ bs. Some (sized_front (big_number 4 bytes) bs)) read left entry
+behind_four : (bytes read left : List ℕ) (entry : Option StoredEntry) → length bytes ≡ 4
+    → IsFirst (λ bs. Some (sized_front (big_number 4 bytes) bs)) read left entry
     → IsFirst first_entry (bytes ++ read) left entry
 behind_four bytes read left None four first = absurd cc
 behind_four bytes read left (Some (stored.Object object)) four first =
@@ -118,7 +123,8 @@ pub begin : (old : Option (List ℕ)) → GoesOn most_objects [] old old
 begin old = record { read = []; taken = Consumes-nil old; entries = λ more. refl; rest = λ more. refl }
 
 -- the entries of bytes of which an object is the first
-of_object : (left : ℕ) (bytes object behind : List ℕ) → first_entry bytes ≡ Some (front (Object object) behind) → entries (suc left) bytes ≡ Object object ∷ entries left behind
+of_object : (left : ℕ) (bytes object behind : List ℕ) → first_entry bytes ≡ Some (front (Object object) behind) → entries (suc left) bytes
+    ≡ Object object ∷ entries left behind
 unfolding entries
 of_object left bytes object behind first = rw (first, entries) refl
 
@@ -137,7 +143,8 @@ next_object left es old mid new object so_far given = record {
   taken = Consumes-trans old mid new so_far.read given.0 so_far.taken given.1;
   entries = λ more.
       ap (entries most_objects) (append_assoc so_far.read given.0 more) ∙ so_far.entries (given.0 ++ more)
-      ∙ ap (λ rest. map entry_of es ++ rest) (of_object left (given.0 ++ more) object.items more (given.2 more)) ∙ snoc es (stored.Object object) (entries left more);
+      ∙ ap (λ rest. map entry_of es ++ rest) (of_object left (given.0 ++ more) object.items more (given.2 more))
+      ∙ snoc es (stored.Object object) (entries left more);
   rest = λ more.
       ap (unread most_objects) (append_assoc so_far.read given.0 more) ∙ so_far.rest (given.0 ++ more)
       ∙ past_object left (given.0 ++ more) object.items more (given.2 more);
@@ -154,7 +161,8 @@ unfolding unread
 past_none zero bytes first = rw (first, unread) refl
 past_none (suc left) bytes first = rw (first, unread) refl
 
-of_broken : (left : ℕ) (bytes behind : List ℕ) (fault : Fault) → next_entry left bytes ≡ Some (front (Broken fault) behind) → entries left bytes ≡ Broken fault ∷ []
+of_broken : (left : ℕ) (bytes behind : List ℕ) (fault : Fault) → next_entry left bytes ≡ Some (front (Broken fault) behind)
+    → entries left bytes ≡ Broken fault ∷ []
 unfolding entries
 of_broken zero bytes behind fault first = rw (first, entries) refl
 of_broken (suc left) bytes behind fault first = rw (first, entries) refl
@@ -186,7 +194,8 @@ nothing_left left read rest first =
     is_nothing rest (omega (arith, none, length-append read rest))
 
 -- nothing more came
-ended_by_none : (left : ℕ) (es : List StoredEntry) (old mid new : Option (List ℕ)) → GoesOn left es old mid → GivesEntry (next_entry left) None mid new → GivesBatch es old new
+ended_by_none : (left : ℕ) (es : List StoredEntry) (old mid new : Option (List ℕ)) → GoesOn left es old mid
+    → GivesEntry (next_entry left) None mid new → GivesBatch es old new
 ended_by_none left es old mid new so_far given = record {
   read = so_far.read ++ given.0;
   taken = Consumes-trans old mid new so_far.read given.0 so_far.taken given.1;
@@ -206,7 +215,8 @@ ended_by_fault left es old mid new fault so_far given = record {
   taken = Consumes-trans old mid new so_far.read given.0 so_far.taken given.1;
   entries =
       ap (entries most_objects) (append_assoc so_far.read given.0 (left_of new)) ∙ so_far.entries (given.0 ++ left_of new)
-      ∙ ap (λ rest. map entry_of es ++ rest) (of_broken left (given.0 ++ left_of new) (left_of new) fault given.2) ∙ sym (map-append entry_of es (stored.Broken fault ∷ []));
+      ∙ ap (λ rest. map entry_of es ++ rest) (of_broken left (given.0 ++ left_of new) (left_of new) fault given.2)
+      ∙ sym (map-append entry_of es (stored.Broken fault ∷ []));
   rest =
       ap (unread most_objects) (append_assoc so_far.read given.0 (left_of new)) ∙ so_far.rest (given.0 ++ left_of new)
       ∙ past_broken left (given.0 ++ left_of new) (left_of new) fault given.2;
@@ -229,7 +239,8 @@ pub fault_read : (i : ℕ) (es : List StoredEntry) (old mid new : Option (List �
 fault_read i es old mid new fault few so_far given =
     ended_by_fault (suc (1024 - (i + 1))) es old mid new fault (subst (λ n. GoesOn n es old mid) (before_last i few) so_far) given
 
-pub none_read : (i : ℕ) (es : List StoredEntry) (old mid new : Option (List ℕ)) → i < 1024 → GoesOn (1024 - i) es old mid → GivesEntry first_entry None mid new → GivesBatch es old new
+pub none_read : (i : ℕ) (es : List StoredEntry) (old mid new : Option (List ℕ)) → i < 1024 → GoesOn (1024 - i) es old mid
+    → GivesEntry first_entry None mid new → GivesBatch es old new
 none_read i es old mid new few so_far given =
     ended_by_none (suc (1024 - (i + 1))) es old mid new (subst (λ n. GoesOn n es old mid) (before_last i few) so_far) given
 
@@ -239,9 +250,11 @@ surplus_read i es old mid new true all there so_far given =
     ended_by_fault zero es old mid new (nowhere service_full) (subst (λ n. GoesOn n es old mid) (at_last i all) so_far) given
 surplus_read i es old mid new false all there so_far given = absurd cc
 
-pub no_surplus_read : (i : ℕ) (es : List StoredEntry) (old mid new : Option (List ℕ)) (is_there : Bool) → 1024 ≤ i → is_there ≡ false → GoesOn (1024 - i) es old mid
+pub no_surplus_read : (i : ℕ) (es : List StoredEntry) (old mid new : Option (List ℕ)) (is_there : Bool) → 1024 ≤ i → is_there ≡ false
+    → GoesOn (1024 - i) es old mid
     → GivesEntry surplus (surplus_entry is_there) mid new → GivesBatch es old new
-no_surplus_read i es old mid new false all lacks so_far given = ended_by_none zero es old mid new (subst (λ n. GoesOn n es old mid) (at_last i all) so_far) given
+no_surplus_read i es old mid new false all lacks so_far given =
+    ended_by_none zero es old mid new (subst (λ n. GoesOn n es old mid) (at_last i all) so_far) given
 no_surplus_read i es old mid new true all lacks so_far given = absurd cc
 
 -- HOW MANY BYTES
@@ -257,5 +270,6 @@ pub lost_none : (n : ℕ) (old : Option (List ℕ)) → LosesAtMost n old old
 lost_none n old = ([], omega arith, Consumes-nil old)
 
 -- so many bytes for each of the entries so far, and one entry more, are no more than all of a batch
-pub lost_so_far : (i more n : ℕ) (old mid new : Option (List ℕ)) → i * 1048580 + more ≤ n → LosesAtMost (i * 1048580) old mid → LosesAtMost more mid new → LosesAtMost n old new
+pub lost_so_far : (i more n : ℕ) (old mid new : Option (List ℕ)) → i * 1048580 + more ≤ n → LosesAtMost (i * 1048580) old mid
+    → LosesAtMost more mid new → LosesAtMost n old new
 lost_so_far i more n old mid new few one other = lost_fewer (i * 1048580 + more) n old new few (lost_both (i * 1048580) more old mid new one other)

@@ -16,7 +16,8 @@ by_refused : (refused : Bool) (status : ℕ) → status ≡ status_if refused �
 by_refused true status h = inr h
 by_refused false status h = inl h
 
-batch_status : (o : Option Fault) (es : List Entry) (text : List ℕ) (status : ℕ) → MatchOption o (IsBatchTold es text status) (λ fault. (status ≡ refusal_status) × (text ≡ refusal_line fault)) → IsEnd status
+batch_status : (o : Option Fault) (es : List Entry) (text : List ℕ) (status : ℕ)
+    → MatchOption o (IsBatchTold es text status) (λ fault. (status ≡ refusal_status) × (text ≡ refusal_line fault)) → IsEnd status
 batch_status None es text status h = by_refused h.0 status h.2
 batch_status (Some fault) es text status h = inr h.0
 
@@ -25,7 +26,8 @@ pool_ends workers slice bytes text status h = batch_status (words_fault workers 
 
 -- whoever writes its output delivers it
 module _ (Answers : Answering) (ends : Ends Answers) (known : Option (List ℕ)) (result : ℕ) (old new : Option (List ℕ)) where
-  answered : (text : List ℕ) (status : ℕ) → IsOutput Answers known text status → Writes text status result old new → result ≢ failure_status → result ≢ no_memory → WritesAnswer Answers known result old new
+  answered : (text : List ℕ) (status : ℕ) → IsOutput Answers known text status → Writes text status result old new
+      → result ≢ failure_status → result ≢ no_memory → WritesAnswer Answers known result old new
   answered text status output (inr h) whole enough = absurd (whole h.0)
   answered text status (inl answer) (inl h) whole enough = (text, subst (λ s. AnswersReader Answers known text s) (sym h.0) answer, h.1)
   answered text status (inr (inl is)) (inl h) whole enough = absurd (enough (h.0 ∙ is.1))
@@ -35,7 +37,8 @@ module _ (Answers : Answering) (ends : Ends Answers) (known : Option (List ℕ))
   by_end text status (inl h) same is = absurd (omega (arith, h, same, is))
   by_end text status (inr h) same is = absurd (omega (arith, h, same, is))
 
-  without : (text : List ℕ) (status : ℕ) → IsOutput Answers known text status → Writes text status result old new → result ≡ no_memory → Appends old new memory_line
+  without : (text : List ℕ) (status : ℕ) → IsOutput Answers known text status → Writes text status result old new → result ≡ no_memory
+      → Appends old new memory_line
   without text status output (inr h) is = absurd (omega (arith, h.0, is))
   without text status (inl answer) (inl h) is = by_end text status (ends answer.0 text status answer.2) h.0 is
   without text status (inr (inl its)) (inl h) is = subst (Appends old new) its.0 h.1

@@ -1,5 +1,6 @@
 -- The answer to a front of the bytes that is one byte longer than an object is the answer to all of them.
-use Rattle.std.proofs.Common.{◌≡◌, ◌≤◌, ◌+◌, ◌<◌, ℕ, List, length, take, nat_lt, Bool, true, false, Option, Some, None, IfSome, Err, inl, inr, arith, refl, sym, subst, ap, ◌∙◌}
+use Rattle.std.proofs.Common.{◌≡◌, ◌≤◌, ◌+◌, ◌<◌, ℕ, List, length, take, nat_lt, Bool, true, false, Option, Some, None, IfSome, Err, inl, inr, arith}
+use Rattle.std.proofs.Common.{refl, sym, subst, ap, ◌∙◌}
 use Rattle.std.proofs.lemmas.List.{take_all, length-take-le}
 use Rattle.std.proofs.lemmas.Bool.Decides.{nat_tests}
 use Rattle.gw_object.specs.declared.fault.Fault.{Fault}
@@ -44,13 +45,15 @@ same_object bytes = rw (same_fault bytes, object_of) refl
 
 -- a front of a text that is too long is too long
 front_too_long : (bytes : List ℕ) → MOST_BYTES < length bytes → MOST_BYTES < length (take (MOST_BYTES + 1) bytes)
-front_too_long bytes long = let front : length (take (MOST_BYTES + 1) bytes) ≡ MOST_BYTES + 1 = length-take-le (MOST_BYTES + 1) bytes (omega (arith, long)) in omega (arith, front)
+front_too_long bytes long = let front : length (take (MOST_BYTES + 1) bytes) ≡ MOST_BYTES + 1 =
+    length-take-le (MOST_BYTES + 1) bytes (omega (arith, long)) in omega (arith, front)
 
 -- the refusal of a front of a text that is too long is that of the text
 refused_whole : (bytes : List ℕ) (fault : Fault) → MOST_BYTES < length bytes → IsRefusedText (take (MOST_BYTES + 1) bytes) fault → IsRefusedText bytes fault
 refused_whole bytes fault long h = record { long = λ _. h.long (front_too_long bytes long); within = λ short. absurd (omega (arith, long, short)) }
 
-assembly_of_long : (bytes text : List ℕ) (status : ℕ) → MOST_BYTES < length bytes → IsAssembly (take (MOST_BYTES + 1) bytes) text status → IsAssembly bytes text status
+assembly_of_long : (bytes text : List ℕ) (status : ℕ) → MOST_BYTES < length bytes → IsAssembly (take (MOST_BYTES + 1) bytes) text status
+    → IsAssembly bytes text status
 assembly_of_long bytes text status long (inl h) = let front = front_too_long bytes long in let within = h.1.within in absurd (omega (arith, front, within))
 assembly_of_long bytes text status long (inr h) = inr (h.0, (h.1.0, refused_whole bytes h.1.0 long h.1.1, h.1.2, h.1.3))
 
@@ -62,13 +65,16 @@ assembly_of_front bytes text status answer = cases (nat_lt MOST_BYTES (length by
     subst (λ bs. IsAssembly bs text status) (take_all (MOST_BYTES + 1) bytes within) answer)
 
 -- the answer to such a front is that to all of the bytes
-of_front : (request : Request) (bytes text : List ℕ) (status : ℕ) → answers_to request (take (MOST_BYTES + 1) bytes) text status → answers_to request bytes text status
+of_front : (request : Request) (bytes text : List ℕ) (status : ℕ) → answers_to request (take (MOST_BYTES + 1) bytes) text status
+    → answers_to request bytes text status
 of_front (Run seed count) bytes text status answer = rw (same_job seed count bytes) at answer
 of_front Check bytes text status answer = rw (same_object bytes) at answer
 of_front Asm bytes text status answer = assembly_of_front bytes text status answer
 
 -- what answers the bytes that were read answers the reader
-pub answers_reader : (request : Request) (known : Option (List ℕ)) (input text : List ℕ) (status : ℕ) → IfSome known (λ bytes. input ≡ take (MOST_BYTES + 1) bytes)
+pub answers_reader : (request : Request) (known : Option (List ℕ)) (input text : List ℕ) (status : ℕ)
+    → IfSome known (λ bytes. input ≡ take (MOST_BYTES + 1) bytes)
     → answers_to request input text status → AnswersReader (answers_to request) known text status
 answers_reader request None input text status h answer = (input, tt, answer)
-answers_reader request (Some bytes) input text status h answer = (bytes, refl, of_front request bytes text status (subst (λ bs. answers_to request bs text status) h answer))
+answers_reader request (Some bytes) input text status h answer =
+    (bytes, refl, of_front request bytes text status (subst (λ bs. answers_to request bs text status) h answer))

@@ -18,7 +18,7 @@ ghost use Rattle.gpssw.specs.Calls.{TellsCallsOf, TellsPoolCalls, tells_calls};
 use crate::framing::read_batch;
 use crate::words::{Command, command_of};
 use gw_answers::status::{FAILED, WRONG_WORDS};
-use gw_answers::{Answer, Request, answer_to, answer_refusal};
+use gw_answers::{Answer, Request, answer_refusal, answer_to};
 use gw_batch::{Entry, Shift, answer_batch, refusal_of_words};
 use gw_console::{ProgramFault, deliver, or_no_memory, read_input, write_and_end};
 use gw_object::{MOST_BYTES, Memory};

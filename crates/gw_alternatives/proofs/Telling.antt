@@ -16,7 +16,8 @@ use Rattle.gw_alternatives.specs.declared.alternatives.NoAlternative.{NoAlternat
 use Rattle.gw_alternatives.specs.declared.form.Form.{Form}
 use Rattle.gw_alternatives.specs.Told.{AddsTableIn, head_line, IsAnswerAbout, IsPointBy, IsTableOf, IsToldOr, TellsAlternative}
 
-pub told_or : {E : Type 0} (Are : List Alternative → Type 0) (form : Form) (request : StudyRequest) (found : Result (Vec Alternative Global) NoAlternative) (a : Result Answer E)
+pub told_or : {E : Type 0} (Are : List Alternative → Type 0) (form : Form) (request : StudyRequest)
+    (found : Result (Vec Alternative Global) NoAlternative) (a : Result Answer E)
     → IfOk found (λ all. Are all.items)
     → MatchResult found (λ all. IfOk a (λ a. IsAnswerAbout form request all.items a.text.items a.status)) (λ none. IfOk a (λ a. a.status ≡ refusal_status))
     → IfOk a (λ a. IsToldOr Are form request a.text.items a.status)

@@ -1,5 +1,6 @@
 -- What is told of the runs of alternatives.
-use Rattle.std.specs.Prelude.{◌≡◌, ◌⊎◌, ℕ, ◌+◌, List, [], ◌∷◌, ◌++◌, map, codes, Bool, ◌||◌, ℤ, Option, None, Result, IfOk, OnOk, MatchResult, Vec, if◌then◌else◌}
+use Rattle.std.specs.Prelude.{◌≡◌, ◌⊎◌, ℕ, ◌+◌, List, [], ◌∷◌, ◌++◌, map, codes, Bool, ◌||◌, ℤ, Option, None, Result, IfOk, OnOk, MatchResult, Vec}
+use Rattle.std.specs.Prelude.{if◌then◌else◌}
 use Rattle.std.specs.Global.{Global}
 use Rattle.gw_step.specs.declared.ends.End.TheVariants.{Done}
 use Rattle.gw_answers.specs.Requests.{AnswersAs}

@@ -12,5 +12,8 @@ Conclusion j = (text : List ℕ) × (status : ℕ) × Concludes j text status
 
 pub job_concludes : (j : Job) → Checked j.parts → 0 < j.budget → Conclusion j
 job_concludes j checked some =
-    let end = all_jobs_end j checked some in
-    (report_of (record { job = j; state = end.state }), end_status, (refl, record { steps = end.steps; state = end.state; alone = end.alone; final = end.final; report = refl }))
+    let end = all_jobs_end j checked some in (
+      report_of (record { job = j; state = end.state }),
+      end_status,
+      (refl, record { steps = end.steps; state = end.state; alone = end.alone; final = end.final; report = refl }),
+    )

@@ -15,7 +15,8 @@ unfolding step
 final_has_no_step j s h = let ends = not_running s.ended h in rw (ends, step) refl
 
 -- there is no state after one that has no step
-none_after : (j : Job) (start : Option State) (s : State) (m n k : ℕ) → after j m start ≡ Some s → step j.parts j.budget s ≡ None → n ≡ suc (k + m) → after j n start ≡ None
+none_after : (j : Job) (start : Option State) (s : State) (m n k : ℕ) → after j m start ≡ Some s → step j.parts j.budget s ≡ None → n
+    ≡ suc (k + m) → after j n start ≡ None
 unfolding after
 none_after j start s m n zero h last e =
     let next : n ≡ suc m = omega (arith, e) in
@@ -25,7 +26,8 @@ none_after j start s m n (suc k) h last e =
     ap (λ i. after j i start) next ∙ ap (then_step j) (none_after j start s m (suc (k + m)) k h last refl)
 
 -- so a state without a step isn't reached later than another
-not_later : (j : Job) (start : Option State) (s t : State) (m n : ℕ) → after j m start ≡ Some s → step j.parts j.budget s ≡ None → after j n start ≡ Some t → m < n → ⊥
+not_later : (j : Job) (start : Option State) (s t : State) (m n : ℕ) → after j m start ≡ Some s → step j.parts j.budget s ≡ None
+    → after j n start ≡ Some t → m < n → ⊥
 not_later j start s t m n h last k later =
     let between : (i : ℕ) × (n ≡ suc (i + m)) = (n - suc m, omega arith) in
     let none = none_after j start s m n between.0 h last between.1 in

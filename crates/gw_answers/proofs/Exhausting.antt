@@ -6,7 +6,8 @@ use Rattle.gw_scan.specs.declared.slices.Slice.{Slice}
 use Rattle.gw_scan.specs.Answers.{IsSlice}
 
 -- by the end that stands
-ends : (o : Option End) (budget steps : ℕ) (slice : Slice) → (o ≡ None → steps < budget) → IsSlice budget slice → slice.ended ≡ is_some o → slice.made ≤ steps → IsTrue (is_some o)
+ends : (o : Option End) (budget steps : ℕ) (slice : Slice) → (o ≡ None → steps < budget) → IsSlice budget slice → slice.ended ≡ is_some o
+    → slice.made ≤ steps → IsTrue (is_some o)
 ends (Some end) budget steps slice runs all is made = refl
 ends None budget steps slice runs all is made =
     let fewer : slice.made < budget = omega (arith, runs refl, made) in
@@ -14,5 +15,6 @@ ends None budget steps slice runs all is made =
     let ended = all.all differs in
     absurd cc
 
-pub exhausts : (p : Progress) (slice : Slice) → IsReached p → IsSlice p.job.budget slice → slice.ended ≡ is_some p.state.ended → slice.made ≤ p.state.steps → IsFinal p.state
+pub exhausts : (p : Progress) (slice : Slice) → IsReached p → IsSlice p.job.budget slice → slice.ended ≡ is_some p.state.ended → slice.made
+    ≤ p.state.steps → IsFinal p.state
 exhausts p slice reached all is made = ends p.state.ended p.job.budget p.state.steps slice reached.bounded.runs all is made

@@ -16,10 +16,12 @@ reached j s = record { job = j; state = s }
 
 one_end : (j : Job) (text other : List ℕ) → Ends j text → Ends j other → text ≡ other
 one_end j text other e f =
-    let same = one_ending j (start_of j) e.state f.state e.steps f.steps e.alone (final_has_no_step j e.state e.final) f.alone (final_has_no_step j f.state f.final) in
+    let same = one_ending j (start_of j) e.state f.state e.steps f.steps e.alone (final_has_no_step j e.state e.final) f.alone
+    (final_has_no_step j f.state f.final) in
     e.report ∙ ap (λ s. report_of (reached j s)) same ∙ sym f.report
 
-one_conclusion : (j : Job) (text other : List ℕ) (status otherwise : ℕ) → Concludes j text status → Concludes j other otherwise → (text ≡ other) × (status ≡ otherwise)
+one_conclusion : (j : Job) (text other : List ℕ) (status otherwise : ℕ) → Concludes j text status → Concludes j other otherwise
+    → (text ≡ other) × (status ≡ otherwise)
 one_conclusion j text other status otherwise h k = (one_end j text other h.1 k.1, h.0 ∙ sym k.0)
 
 by_job : (r : Result Job Fault) (text other : List ℕ) (status otherwise : ℕ)

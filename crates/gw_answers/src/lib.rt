@@ -15,7 +15,8 @@ pub mod status;
 
 pub use acceptance::Acceptance;
 pub use answer::{
-    Answer, BUDGET, NoJob, answer_acceptance, accepted_in, answer_to, answer_refusal, run_to_end, spec_of,
+    Answer, BUDGET, NoJob, accepted_in, answer_acceptance, answer_refusal, answer_to, run_to_end,
+    spec_of,
 };
 pub use laws::answers_are_determined;
 pub use names::NAMES;

@@ -31,30 +31,49 @@ weighed_alike p q w = ended_alike p w.base q w.rest w.ended
 
 module _ (ss : List Statement) where
   -- what statements become is the same with another state table
-  tabled : (before : Parts) (returns : List ReturnRow) (states chain_states : List (Option TableState)) → IsMadeOf ss before → IsMadeOf ss (with_table before returns states chain_states)
+  tabled : (before : Parts) (returns : List ReturnRow) (states chain_states : List (Option TableState)) → IsMadeOf ss before
+      → IsMadeOf ss (with_table before returns states chain_states)
   tabled before returns states chain_states made = record {
     named = made.named;
     numbers = made.numbers;
     order = made.order;
-    pieces = record { names = made.pieces.names; sources = made.pieces.sources; entities = made.pieces.entities; code = made.pieces.code; version = made.pieces.version; count = made.pieces.count; seeds = made.pieces.seeds };
+    pieces = record {
+      names = made.pieces.names;
+      sources = made.pieces.sources;
+      entities = made.pieces.entities;
+      code = made.pieces.code;
+      version = made.pieces.version;
+      count = made.pieces.count;
+      seeds = made.pieces.seeds;
+    };
   }
 
   settled_made : (before settled : Parts) → IsMadeOf ss before → IsSettlement before settled → IsMadeOf ss settled
-  settled_made before settled made settlement = subst (IsMadeOf ss) (sym settlement.passes.same) (tabled before settled.returns settled.states settled.chain_states made)
+  settled_made before settled made settlement =
+      subst (IsMadeOf ss) (sym settlement.passes.same) (tabled before settled.returns settled.states settled.chain_states made)
 
   -- but for its version an object is made of statements, and it computes what they do
   abbrev IsMade : Parts → Type 0
   IsMade p = (made : IsMadeOf ss (in_least_version p)) × AllCompute made.numbers made.order ss p
 
   -- with another version, and other weights and slopes
-  others : (settled : Parts) (version : ℕ) (weights : List ℕ) (slopes : List (Option (ℕ × ℕ))) (chains : List ℕ) (made : IsMadeOf ss settled) → AllCompute made.numbers made.order ss settled
+  others : (settled : Parts) (version : ℕ) (weights : List ℕ) (slopes : List (Option (ℕ × ℕ))) (chains : List ℕ)
+      (made : IsMadeOf ss settled) → AllCompute made.numbers made.order ss settled
       → IsMade (record settled { version = version; weights = weights; slopes = slopes; chain_weights = chains })
   others settled version weights slopes chains made computes = (
     record {
       named = made.named;
       numbers = made.numbers;
       order = made.order;
-      pieces = record { names = made.pieces.names; sources = made.pieces.sources; entities = made.pieces.entities; code = made.pieces.code; version = refl; count = made.pieces.count; seeds = made.pieces.seeds };
+      pieces = record {
+        names = made.pieces.names;
+        sources = made.pieces.sources;
+        entities = made.pieces.entities;
+        code = made.pieces.code;
+        version = refl;
+        count = made.pieces.count;
+        seeds = made.pieces.seeds;
+      };
     },
     all_same settled version weights slopes chains made.numbers made.order ss computes,
   )

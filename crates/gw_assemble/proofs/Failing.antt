@@ -41,7 +41,8 @@ module _ (p : Parts) (kinds : KindsPass p) (code : PlusPasses p) (flow : FlowPas
       weights
 
   -- one that is refused has no slopes but its own
-  pub still : (base q : Parts) → DifferInWeights p base → IsEnded base q → (fault : Fault) → fault_of q ≡ Some fault → (q ≡ base) × (FailsAtNoEdge base ⊎ HelpNoneBefore base (most_parameters + 1))
+  pub still : (base q : Parts) → DifferInWeights p base → IsEnded base q → (fault : Fault) → fault_of q ≡ Some fault → (q ≡ base)
+      × (FailsAtNoEdge base ⊎ HelpNoneBefore base (most_parameters + 1))
   still base q rest (inl (elsewhere, same)) fault refused = (same, inl elsewhere)
   still base q rest (inr (edge, inl (same, none))) fault refused = (same, inr none)
   still base q rest (inr (edge, inr (has, least))) fault refused =
@@ -51,7 +52,8 @@ module _ (p : Parts) (kinds : KindsPass p) (code : PlusPasses p) (flow : FlowPas
   still_weighed q w fault refused = subst (DifferInWeights p) (sym (still w.base q w.rest w.ended fault refused).0) w.rest
 
   -- where any weights pass in one with the least, they make it an accepted one
-  fails_by_weights : (q : Parts) → DifferInWeights p q → HasLeastWeights q → HasSpelling q → FailsAtNoEdge q ⊎ HelpNoneBefore q (most_parameters + 1) → (fault : Fault) → fault_of q ≡ Some fault → FailsByWeights q fault
+  fails_by_weights : (q : Parts) → DifferInWeights p q → HasLeastWeights q → HasSpelling q → FailsAtNoEdge q
+      ⊎ HelpNoneBefore q (most_parameters + 1) → (fault : Fault) → fault_of q ≡ Some fault → FailsByWeights q fault
   fails_by_weights q differ least spelled slopes fault refused = record {
     spelled = spelled;
     refused = refused;
@@ -63,7 +65,8 @@ module _ (p : Parts) (kinds : KindsPass p) (code : PlusPasses p) (flow : FlowPas
   fails q w spelled fault (inl refused) =
       let s = still w.base q w.rest w.ended fault refused in
       let least : HasLeastWeights q = subst HasLeastWeights (sym s.0) w.least in
-      let slopes : FailsAtNoEdge q ⊎ HelpNoneBefore q (most_parameters + 1) = subst (λ (x : Parts). FailsAtNoEdge x ⊎ HelpNoneBefore x (most_parameters + 1)) (sym s.0) s.1 in
+      let slopes : FailsAtNoEdge q ⊎ HelpNoneBefore q (most_parameters + 1) =
+      subst (λ (x : Parts). FailsAtNoEdge x ⊎ HelpNoneBefore x (most_parameters + 1)) (sym s.0) s.1 in
       inl (q, w, fails_by_weights q (still_weighed q w fault refused) least spelled slopes fault refused)
   fails q w spelled fault (inr memory) = inr (inr memory)
 
@@ -75,6 +78,8 @@ unweighed p PastLimit fault is h = inr (inl (is, h))
 -- where no weights pass in an object with the assembler's table, or it is too long with slopes, or memory is wanted, that is why there is no completion
 pub no_completion : {A : Type 0} (r : Result A Fault) (p settled : Parts) → IsSettlement p settled → IfErr r (IsUnweighed settled) → IfErr r (HasNoCompletion p)
 no_completion (Ok x) p settled settlement h = tt
-no_completion (Err fault) p settled settlement (inl (q, weights, fails)) = inr (inr (inr (inl (q, record { settled = settled; settlement = settlement; weights = weights }, fails))))
-no_completion (Err fault) p settled settlement (inr (inl (is, long))) = inr (inr (inr (inr (inl (record { is = is; settled = settled; settlement = settlement; long = long })))))
+no_completion (Err fault) p settled settlement (inl (q, weights, fails)) =
+    inr (inr (inr (inl (q, record { settled = settled; settlement = settlement; weights = weights }, fails))))
+no_completion (Err fault) p settled settlement (inr (inl (is, long))) =
+    inr (inr (inr (inr (inl (record { is = is; settled = settled; settlement = settlement; long = long })))))
 no_completion (Err fault) p settled settlement (inr (inr memory)) = inr (inr (inr (inr (inr memory))))

@@ -47,14 +47,16 @@ module _ (p : Parts) (version : ℕ) (weights : List ℕ) (slopes : List (Option
   asks_same (instructions.Call n) = refl
   asks_same i = refl
 
-  instruction_same : (n : ℕ) (pr : Procedure) (heights : Heights) (k : ℕ) (i : Instruction) (o : Option ℕ) → instruction_checks q n pr heights k i o ≡ instruction_checks p n pr heights k i o
+  instruction_same : (n : ℕ) (pr : Procedure) (heights : Heights) (k : ℕ) (i : Instruction) (o : Option ℕ)
+      → instruction_checks q n pr heights k i o ≡ instruction_checks p n pr heights k i o
   instruction_same n pr heights k i None = refl
   instruction_same n pr heights k i (Some height) = rw (takes_same i, asks_same i) refl
 
   heights_same : (heights : Heights) (k : ℕ) (i : Instruction) → heights_after q heights k i ≡ heights_after p heights k i
   heights_same heights k i = rw (takes_same i) refl
 
-  code_same : (n : ℕ) (pr : Procedure) (heights : Heights) (k : ℕ) (code : List Instruction) → code_checks q n pr heights k code ≡ code_checks p n pr heights k code
+  code_same : (n : ℕ) (pr : Procedure) (heights : Heights) (k : ℕ) (code : List Instruction) → code_checks q n pr heights k code
+      ≡ code_checks p n pr heights k code
   code_same n pr heights k [] = refl
   code_same n pr heights k (i ∷ code) =
       ap₂ (λ (cs ds : List Check). cs ++ ds)
@@ -86,13 +88,15 @@ module _ (p : Parts) (version : ℕ) (weights : List ℕ) (slopes : List (Option
   flow_from : (table : Table) → FlowHolds q table → FlowHolds p table
   flow_from table h = record {
     arrivals = h.arrivals;
-    each_row = λ b block row is has. let may = h.each_row b block row is has in record { each_rule = subst (All (λ (rule : Rule). rule.holds ≡ true)) (rules_same block row) may.each_rule; each_edge = may.each_edge };
+    each_row = λ b block row is has. let may = h.each_row b block row is has in
+        record { each_rule = subst (All (λ (rule : Rule). rule.holds ≡ true)) (rules_same block row) may.each_rule; each_edge = may.each_edge };
   }
 
   flow_to : (table : Table) → FlowHolds p table → FlowHolds q table
   flow_to table h = record {
     arrivals = h.arrivals;
-    each_row = λ b block row is has. let may = h.each_row b block row is has in record { each_rule = subst (All (λ (rule : Rule). rule.holds ≡ true)) (sym (rules_same block row)) may.each_rule; each_edge = may.each_edge };
+    each_row = λ b block row is has. let may = h.each_row b block row is has in
+        record { each_rule = subst (All (λ (rule : Rule). rule.holds ≡ true)) (sym (rules_same block row)) may.each_rule; each_edge = may.each_edge };
   }
 
   pub flow_same_from : (table : Table) → FlowPasses q table → FlowPasses p table

@@ -1,5 +1,6 @@
 -- Weights that pass with some state table pass with each whose rows fit its own.
-use Rattle.std.proofs.Common.{◌≡◌, inl, inr, ℕ, List, [], ◌∷◌, length, map, Option, Some, None, true, IsTrue, IsSome, All, refl, sym, ap, subst, ◌∙◌, is_some, ◌==◌}
+use Rattle.std.proofs.Common.{◌≡◌, inl, inr, ℕ, List, [], ◌∷◌, length, map, Option, Some, None, true, IsTrue, IsSome, All, refl, sym, ap, subst, ◌∙◌}
+use Rattle.std.proofs.Common.{is_some, ◌==◌}
 use Rattle.std.specs.Prelude.{IsSomeAnd, IfSome}
 use Rattle.std.specs.List.{list_all}
 use Rattle.std.proofs.lemmas.Bool.{false≢true, and_parts, or_cases, eqb-true}
@@ -48,7 +49,8 @@ abbrev Holds : Rule → Type 0
 Holds rule = rule.holds ≡ true
 
 -- what fits a return is one, to no other blocks
-return_fits : (kind said : Option ParamKind) → IsTrue (kind_fits kind said) → is_return said ≡ true → list_all (λ b. lists (return_blocks said) b) (return_blocks kind) ≡ true
+return_fits : (kind said : Option ParamKind) → IsTrue (kind_fits kind said) → is_return said ≡ true
+    → list_all (λ b. lists (return_blocks said) b) (return_blocks kind) ≡ true
 return_fits (Some (Ret bs)) (Some (Ret cs)) h g = h
 return_fits None (Some (Ret cs)) h g = absurd (false≢true h)
 return_fits (Some Num) (Some (Ret cs)) h g = absurd (false≢true h)
@@ -89,7 +91,8 @@ number_fits kind (Some (Ret cs)) h number = absurd (cc)
 number_fits kind None h number = absurd (cc)
 
 -- a slope that is on a number in a row is on one in each that fits it
-slope_fits : (slope : Option (ℕ × ℕ)) (row other : Row) → Fits row other → IfSome slope (λ s. kind_of other s.0 ≡ Some Num) → IfSome slope (λ s. kind_of row s.0 ≡ Some Num)
+slope_fits : (slope : Option (ℕ × ℕ)) (row other : Row) → Fits row other → IfSome slope (λ s. kind_of other s.0 ≡ Some Num)
+    → IfSome slope (λ s. kind_of row s.0 ≡ Some Num)
 slope_fits None row other fits h = tt
 slope_fits (Some slope) row other fits h = number_fits (kind_of row slope.0) (kind_of other slope.0) (fits.params slope.0) h
 
@@ -147,21 +150,30 @@ module _ (p : Parts) (returns others : List ReturnRow) (states chain_states othe
   module _ (below : IsTableBelow (own_table s) (own_table t)) (flow : FlowPasses t (own_table t)) (w : Weighted t') where
     chain_paid : (b : ℕ) (block : Block) → PaysChain t' b block → PaysChain s' b block
     chain_paid b (blocks.Link l) h = h
-    chain_paid b (blocks.Unlink u) h = (h.0, λ there. h.1 (there_too (own_table s (targets.Chain u.chain)) (own_table t (targets.Chain u.chain)) (below (targets.Chain u.chain)) there))
+    chain_paid b (blocks.Unlink u) h =
+        (h.0, λ there. h.1 (there_too (own_table s (targets.Chain u.chain)) (own_table t (targets.Chain u.chain)) (below (targets.Chain u.chain)) there))
     chain_paid b block h = tt
 
-    exits_paid : (b : ℕ) (block : Block) (row other : Row) → Fits row other → All Holds (rules t block other) → All (PaysExit t' b block) (exits_with (returns_read block other) block) → All (PaysExit s' b block) (exits_with (returns_read block row) block)
+    exits_paid : (b : ℕ) (block : Block) (row other : Row) → Fits row other → All Holds (rules t block other)
+        → All (PaysExit t' b block) (exits_with (returns_read block other) block) → All (PaysExit s' b block) (exits_with (returns_read block row) block)
     exits_paid b (blocks.TransferByParameter q) row other fits rule h =
         same_paid b (blocks.TransferByParameter q) (map returns_to (return_blocks (kind_of row q)))
-        (fewer_paid (PaysExit t' b (blocks.TransferByParameter q)) (return_blocks (kind_of row q)) (return_blocks (kind_of other q)) (return_fits (kind_of row q) (kind_of other q) (fits.params q) (reads_return t q other rule)) h)
+        (fewer_paid (PaysExit t' b (blocks.TransferByParameter q)) (return_blocks (kind_of row q)) (return_blocks (kind_of other q))
+        (return_fits (kind_of row q) (kind_of other q) (fits.params q) (reads_return t q other rule)) h)
     exits_paid b block row other fits rule h = same_paid b block (exits_with (returns_read block other) block) h
 
     row_paid : (b : ℕ) (block : Block) (row : Row) → block_at p.blocks b ≡ Some block → own_row s b ≡ Some row → Pays s' b block row
     row_paid b block row is has =
-        let found = some_and (own_table t (targets.Block b)) row (below_there row (own_table s (targets.Block b)) (own_table t (targets.Block b)) has (below (targets.Block b))) in
+        let found = some_and (own_table t (targets.Block b)) row
+        (below_there row (own_table s (targets.Block b)) (own_table t (targets.Block b)) has (below (targets.Block b))) in
         let paid = w.each_row b block found.0 is found.1 in
         let may = ((flow_passes_at_each_block t (own_table t)).0 flow).each_row b block found.0 is found.1 in
-        record { slope = slope_fits (slope_at p.slopes b) row found.0 found.2 paid.slope; chain = chain_paid b block paid.chain; exits = exits_paid b block row found.0 found.2 may.each_rule paid.exits }
+        record {
+          slope = slope_fits (slope_at p.slopes b) row found.0 found.2 paid.slope;
+          chain = chain_paid b block paid.chain;
+          exits =
+              exits_paid b block row found.0 found.2 may.each_rule paid.exits;
+        }
 
     pub weighted_below : Weighted s'
     weighted_below = record { least = w.least; chains = w.chains; arrivals = w.arrivals; each_row = row_paid }
@@ -176,21 +188,31 @@ module _ (p : Parts) (fault : Fault) (none : NoneChanged p) (q : Parts) (differ 
   tabled_passes =
       let checked = is_checked q it.accepted in
       let kinds : KindsPass (with_weights tabled q.weights q.chain_weights) = subst KindsPass (sym differ) (kinds_pass q checked) in
-      let flow : FlowPasses (with_weights tabled q.weights q.chain_weights) (own_table (with_weights tabled q.weights q.chain_weights)) = subst (λ (x : Parts). FlowPasses x (own_table x)) (sym differ) (flow_passes q checked) in
-      record { same = refl; kinds = kinds_same_from tabled p.version q.weights p.slopes q.chain_weights kinds; flow = flow_same_from tabled p.version q.weights p.slopes q.chain_weights (own_table tabled) flow }
+      let flow : FlowPasses (with_weights tabled q.weights q.chain_weights) (own_table (with_weights tabled q.weights q.chain_weights)) =
+      subst (λ (x : Parts). FlowPasses x (own_table x)) (sym differ) (flow_passes q checked) in
+      record {
+        same = refl;
+        kinds = kinds_same_from tabled p.version q.weights p.slopes q.chain_weights kinds;
+        flow =
+            flow_same_from tabled p.version q.weights p.slopes q.chain_weights (own_table tabled) flow;
+      }
 
   tabled_weighted : Weighted (with_weights tabled q.weights q.chain_weights)
   tabled_weighted = subst Weighted (sym differ) ((weights_pass_where_weighted q it.spelled).0 (weights_pass q it.accepted))
 
-  settled_weighted : (settled : Parts) → Passes p settled → IsTableBelow (own_table settled) (own_table tabled) → Weighted (with_weights settled q.weights q.chain_weights)
+  settled_weighted : (settled : Parts) → Passes p settled → IsTableBelow (own_table settled) (own_table tabled)
+      → Weighted (with_weights settled q.weights q.chain_weights)
   settled_weighted settled passes below =
       let same = passes.same in
-      let below_there : IsTableBelow (own_table (with_table p settled.returns settled.states settled.chain_states)) (own_table tabled) = subst (λ (x : Parts). IsTableBelow (own_table x) (own_table tabled)) same below in
+      let below_there : IsTableBelow (own_table (with_table p settled.returns settled.states settled.chain_states)) (own_table tabled) =
+      subst (λ (x : Parts). IsTableBelow (own_table x) (own_table tabled)) same below in
       subst (λ (x : Parts). Weighted (with_weights x q.weights q.chain_weights)) (sym same)
-      (weighted_below p settled.returns q.returns settled.states settled.chain_states q.states q.chain_states q.weights q.chain_weights below_there tabled_passes.flow tabled_weighted)
+      (weighted_below p settled.returns q.returns settled.states settled.chain_states q.states q.chain_states q.weights q.chain_weights
+      below_there tabled_passes.flow tabled_weighted)
 
   -- the weights of q may stand where it has as many blocks and user chains
-  certificate : (found : Parts) → HasSpelling found → length p.blocks ≡ length found.blocks → chains_in p.entities ≡ chains_in found.entities → Weighted (with_weights found q.weights q.chain_weights) → AreCertificate found q.weights q.chain_weights
+  certificate : (found : Parts) → HasSpelling found → length p.blocks ≡ length found.blocks → chains_in p.entities
+      ≡ chains_in found.entities → Weighted (with_weights found q.weights q.chain_weights) → AreCertificate found q.weights q.chain_weights
   certificate found spelled blocks chains one =
       let l = it.spelled.limits in
       let many : length q.weights ≡ length found.blocks = l.weights ∙ sym (ap (λ (x : Parts). length x.blocks) differ) ∙ blocks in
@@ -200,7 +222,8 @@ module _ (p : Parts) (fault : Fault) (none : NoneChanged p) (q : Parts) (differ 
         chains = chain_many;
         range = l.each_weight;
         chain_range = l.each_chain_weight;
-        passes = (weights_pass_where_weighted (with_weights found q.weights q.chain_weights) (still_spelled found q.weights q.chain_weights spelled many chain_many l.each_weight l.each_chain_weight)).1 one;
+        passes = (weights_pass_where_weighted (with_weights found q.weights q.chain_weights)
+            (still_spelled found q.weights q.chain_weights spelled many chain_many l.each_weight l.each_chain_weight)).1 one;
       }
 
   pub none_passes : HasNoWeights p fault → ⊥
@@ -209,9 +232,12 @@ module _ (p : Parts) (fault : Fault) (none : NoneChanged p) (q : Parts) (differ 
       let passes = completion.settlement.passes in
       let weighed = still_weighed settled passes.kinds completion.settlement.code passes.flow found completion.weights fault fails.refused in
       let below = completion.settlement.greatest none tabled tabled_passes in
-      let one : Weighted (with_weights found q.weights q.chain_weights) = subst (λ (x : Parts). Weighted (with_weights x q.weights q.chain_weights)) weighed (settled_weighted settled passes below) in
-      let blocks : length p.blocks ≡ length found.blocks = sym (ap (λ (x : Parts). length x.blocks) passes.same) ∙ ap (λ (x : Parts). length x.blocks) weighed in
-      let chains : chains_in p.entities ≡ chains_in found.entities = sym (ap (λ (x : Parts). chains_in x.entities) passes.same) ∙ ap (λ (x : Parts). chains_in x.entities) weighed in
+      let one : Weighted (with_weights found q.weights q.chain_weights) =
+      subst (λ (x : Parts). Weighted (with_weights x q.weights q.chain_weights)) weighed (settled_weighted settled passes below) in
+      let blocks : length p.blocks ≡ length found.blocks = sym (ap (λ (x : Parts). length x.blocks) passes.same)
+      ∙ ap (λ (x : Parts). length x.blocks) weighed in
+      let chains : chains_in p.entities ≡ chains_in found.entities = sym (ap (λ (x : Parts). chains_in x.entities) passes.same)
+      ∙ ap (λ (x : Parts). chains_in x.entities) weighed in
       fails.none q.weights q.chain_weights (certificate found fails.spelled blocks chains one)
 
 pub no_table_and_weights_pass : NoTableAndWeightsPass

@@ -26,7 +26,8 @@ use Rattle.gw_compile.specs.declared.numbering.Equ.{Equ}
 use Rattle.gw_compile.specs.declared.numbering.Equ.TheVariants as equs
 use Rattle.gw_compile.specs.Numbers.{Numbers, Scope, number_of, meaning_by}
 use Rattle.gw_compile.specs.Attributes.{attribute_in}
-use Rattle.gw_compile.specs.Value.{Came, with_value, comes, arithmetic_value, outcome_with, source_value, equ_value, name_value, attribute_value, call_value, value_of, values_of}
+use Rattle.gw_compile.specs.Value.{Came, with_value, comes, arithmetic_value, outcome_with, source_value, equ_value, name_value, attribute_value}
+use Rattle.gw_compile.specs.Value.{call_value, value_of, values_of}
 use Rattle.gw_pieces.specs.Pieces.{Computes, IsEvaluated, AllCompute}
 
 -- STEPS
@@ -36,7 +37,8 @@ module _ (onward other : ℕ → Frame → Answer) (same : (n : ℕ) (f : Frame)
   going_same n (Goes f) = same n f
   going_same n x = refl
 
-  called_same : (n : ℕ) (finish : ℤ → ℤ) (rest : Frame) (r : Answer) → option_and_then (once_called (onward n) finish rest) r ≡ option_and_then (once_called (other n) finish rest) r
+  called_same : (n : ℕ) (finish : ℤ → ℤ) (rest : Frame) (r : Answer) → option_and_then (once_called (onward n) finish rest) r
+      ≡ option_and_then (once_called (other n) finish rest) r
   called_same n finish rest None = refl
   called_same n finish rest (Some (Err e)) = refl
   called_same n finish rest (Some (Ok v)) = going_same n (push_value (finish v) rest)
@@ -73,7 +75,9 @@ module _ (p : Parts) (version : ℕ) (weights : List ℕ) (slopes : List (Option
   instruction_same env f None = refl
   instruction_same env f (Some i) = act_same env i f
 
-  procedure_same : (env : Environment) (f : Frame) (o : Option Procedure) → or_stuck o (λ pr. or_stuck (slice_get pr.code f.place) (λ i. act q env i f)) ≡ or_stuck o (λ pr. or_stuck (slice_get pr.code f.place) (λ i. act p env i f))
+  procedure_same : (env : Environment) (f : Frame) (o : Option Procedure)
+      → or_stuck o (λ pr. or_stuck (slice_get pr.code f.place) (λ i. act q env i f))
+      ≡ or_stuck o (λ pr. or_stuck (slice_get pr.code f.place) (λ i. act p env i f))
   procedure_same env f None = refl
   procedure_same env f (Some pr) = instruction_same env f (slice_get pr.code f.place)
 
@@ -109,13 +113,15 @@ module _ (p : Parts) (version : ℕ) (weights : List ℕ) (slopes : List (Option
 
   attribute_same : (env : Environment) (o : Option Sna) → attribute_value q env o ≡ attribute_value p env o
   attribute_same env None = refl
-  attribute_same env (Some sna) = ap (λ c. with_value c (λ v. comes (value_by_operand p.entities (as_operand sna) v))) (source_same env (source_of p.entities (as_operand sna)))
+  attribute_same env (Some sna) =
+      ap (λ c. with_value c (λ v. comes (value_by_operand p.entities (as_operand sna) v))) (source_same env (source_of p.entities (as_operand sna)))
 
   equ_same : (env : Environment) (equ : Equ) → equ_value q env equ ≡ equ_value p env equ
   equ_same env (equs.Number z) = refl
   equ_same env (equs.Procedure n) = with_same env n []
 
-  name_same : (env : Environment) (locals : List ℤ) (local : Option ℕ) (equ : Option Equ) → name_value q env locals (meaning_by local equ) ≡ name_value p env locals (meaning_by local equ)
+  name_same : (env : Environment) (locals : List ℤ) (local : Option ℕ) (equ : Option Equ) → name_value q env locals (meaning_by local equ)
+      ≡ name_value p env locals (meaning_by local equ)
   name_same env locals (Some k) equ = refl
   name_same env locals None None = refl
   name_same env locals None (Some equ) = equ_same env equ
@@ -157,7 +163,8 @@ module _ (p : Parts) (version : ℕ) (weights : List ℕ) (slopes : List (Option
   -- PROCEDURES
 
   computes_same : (n : Numbers) (e : Expression) (number : ℕ) → Computes n p e number → Computes n q e number
-  computes_same n e number c = record { procedure = c.procedure; there = c.there; value = λ env set. outcome_same env number ∙ c.value env set ∙ sym (value_same n [] env [] e) }
+  computes_same n e number c =
+      record { procedure = c.procedure; there = c.there; value = λ env set. outcome_same env number ∙ c.value env set ∙ sym (value_same n [] env [] e) }
 
   evaluated_same : (n : Numbers) (e : Expression) (by : ℕ → Kind → Type 0) (kind : Kind) → IsEvaluated n p e by kind → IsEvaluated n q e by kind
   evaluated_same n e by kind v = record { number = v.number; kind_is = v.kind_is; computes = computes_same n e v.number v.computes }
@@ -169,5 +176,12 @@ module _ (p : Parts) (version : ℕ) (weights : List ℕ) (slopes : List (Option
     boolean_variables = λ i s e kind source is word there made. evaluated_same n e _ kind (h.boolean_variables i s e kind source is word there made);
     tables = λ i s e kind source is word there made. evaluated_same n e _ kind (h.tables i s e kind source is word there made);
     functions = λ i s e kind source is word there made. evaluated_same n e _ kind (h.functions i s e kind source is word there made);
-    equations = λ name number is. let equation = h.equations name number is in record { equ = equation.equ; expression = equation.expression; there = equation.there; computes = computes_same n equation.expression number equation.computes };
+    equations = λ name number is. let equation = h.equations name number is in
+        record {
+          equ = equation.equ;
+          expression = equation.expression;
+          there = equation.there;
+          computes =
+              computes_same n equation.expression number equation.computes;
+        };
   }

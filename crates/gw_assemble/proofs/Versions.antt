@@ -1,5 +1,6 @@
 -- An object that is completed has the least version that has its blocks and their slopes.
-use Rattle.std.proofs.Common.{◌≡◌, ℕ, zero, suc, ◌+◌, List, [], ◌∷◌, map, Option, Some, None, Bool, true, false, ◌&&◌, ◌||◌, if◌then◌else◌, is_some, refl, sym, ap, ◌∙◌, subst, arith, inl, inr}
+use Rattle.std.proofs.Common.{◌≡◌, ℕ, zero, suc, ◌+◌, List, [], ◌∷◌, map, Option, Some, None, Bool, true, false, ◌&&◌, ◌||◌, if◌then◌else◌, is_some}
+use Rattle.std.proofs.Common.{refl, sym, ap, ◌∙◌, subst, arith, inl, inr}
 use Rattle.std.specs.Prelude.{slice_get, slice_index_or, replicate}
 use Rattle.std.specs.List.{list_any}
 use Rattle.std.proofs.lemmas.Bool.{and_parts, or_cases, false≢true}
@@ -50,7 +51,8 @@ or_true false = refl
 sloped_where_marked : (q per : ℕ) (marks : List Bool) (i : ℕ) → slice_index_or marks i false ≡ true → list_any is_some (map (slope_by q per) marks) ≡ true
 sloped_where_marked q per [] i h = absurd (false≢true h)
 sloped_where_marked q per (m ∷ ms) zero h = ap (λ b. is_some (slope_by q per b) || list_any is_some (map (slope_by q per) ms)) h
-sloped_where_marked q per (m ∷ ms) (suc i) h = ap (λ b. is_some (slope_by q per m) || b) (sloped_where_marked q per ms i h) ∙ or_true (is_some (slope_by q per m))
+sloped_where_marked q per (m ∷ ms) (suc i) h = ap (λ b. is_some (slope_by q per m) || b) (sloped_where_marked q per ms i h)
+    ∙ or_true (is_some (slope_by q per m))
 
 one_sloped : (p o : Parts) → HasSlopes p o → list_any is_some o.slopes ≡ true
 one_sloped p o h =

@@ -17,7 +17,8 @@ in_least_version p = record p { version = version_of p.blocks }
 abbrev pub HasLeastVersion : Parts → Type 0
 HasLeastVersion p = p.version ≡ (if list_any is_some p.slopes then 2 else version_of p.blocks)
 
--- statements become an object: it has one record for each block statement, in order, each expression is computed by a procedure, and its state table is the assembler's
+-- statements become an object: it has one record for each block statement, in order, each expression is computed by a
+-- procedure, and its state table is the assembler's
 pub record Assembles (ss : List Statement) (p : Parts) : Type 0 where
   pub made : IsMadeOf ss (in_least_version p)
   pub version : HasLeastVersion p

@@ -20,7 +20,8 @@ pub record IsAccepted (p : Parts) : Type 0 where
   pub spelled : HasSpelling p
   pub accepted : Accepted p
 
--- an object is another one with the assembler's state table, with which kinds, PLUS code and flow pass, and each row of which fits that of every table with which flow passes
+-- an object is another one with the assembler's state table, with which kinds, PLUS code and flow pass, and each row of
+-- which fits that of every table with which flow passes
 pub record IsSettlement (p settled : Parts) : Type 0 where
   pub spelled : HasSpelling settled
   pub passes : Passes p settled
@@ -53,7 +54,8 @@ pub record HasNoTable (p : Parts) (fault : Fault) : Type 0 where
 
 -- WEIGHTS
 
--- an object has a spelling, but no weights at all pass in it, and where it fails at an edge no slopes help that are tried: the refusal is the first with its own
+-- an object has a spelling, but no weights at all pass in it, and where it fails at an edge no slopes help that are
+-- tried: the refusal is the first with its own
 pub record FailsByWeights (p : Parts) (fault : Fault) : Type 0 where
   pub spelled : HasSpelling p
   pub refused : fault_of p ≡ Some fault
@@ -62,7 +64,8 @@ pub record FailsByWeights (p : Parts) (fault : Fault) : Type 0 where
 
 -- no weights pass in an object with the assembler's state table; or with the slopes that help a limit is passed; or memory ran out
 abbrev pub IsUnweighed : Parts → Fault → Type 0
-IsUnweighed settled fault = ((q : Parts) × IsWeighed settled q × FailsByWeights q fault) ⊎ (((fault ≡ past_limit) × IsTooLong settled) ⊎ (fault ≡ out_of_memory))
+IsUnweighed settled fault = ((q : Parts) × IsWeighed settled q × FailsByWeights q fault)
+    ⊎ (((fault ≡ past_limit) × IsTooLong settled) ⊎ (fault ≡ out_of_memory))
 
 -- the fault where there are no weights
 abbrev pub fault_without : Refusal → Fault
@@ -82,4 +85,5 @@ pub record HasLongSlopes (p : Parts) (fault : Fault) : Type 0 where
 
 -- why there is no completion: the first of these that refuses, or want of memory
 abbrev pub HasNoCompletion : Parts → Fault → Type 0
-HasNoCompletion p fault = PassesLimit p fault ⊎ (BreaksFirst p fault ⊎ (HasNoTable p fault ⊎ (HasNoWeights p fault ⊎ (HasLongSlopes p fault ⊎ (fault ≡ out_of_memory)))))
+HasNoCompletion p fault = PassesLimit p fault
+    ⊎ (BreaksFirst p fault ⊎ (HasNoTable p fault ⊎ (HasNoWeights p fault ⊎ (HasLongSlopes p fault ⊎ (fault ≡ out_of_memory)))))

@@ -11,6 +11,7 @@ use Rattle.gw_assemble.specs.Completion.{IsAccepted, HasNoWeights}
 abbrev pub DiffersInTableAndWeights : Parts → Parts → Type 0
 DiffersInTableAndWeights p q = with_weights (with_table p q.returns q.states q.chain_states) q.weights q.chain_weights ≡ q
 
--- where no weights pass with the assembler's table, none do with any: no object that differs in its table and its weights alone is accepted. Premise: no parameter both keeps a return and is added to or subtracted from
+-- where no weights pass with the assembler's table, none do with any: no object that differs in its table and its
+-- weights alone is accepted. Premise: no parameter both keeps a return and is added to or subtracted from
 abbrev pub NoTableAndWeightsPass : Type 0
 NoTableAndWeightsPass = (p : Parts) (fault : Fault) → NoneChanged p → HasNoWeights p fault → (q : Parts) → DiffersInTableAndWeights p q → IsAccepted q → ⊥

@@ -1,5 +1,6 @@
 -- The register of assemblies: an entry is filed, those struck out are left out, and the first of a set at a block is found.
-use Rattle.std.proofs.Common.{◌≡◌, ◌≢◌, ◌&&◌, ◌-◌, ℕ, zero, suc, ◌+◌, ◌<◌, ◌≤◌, Bool, true, false, cond, if◌then◌else◌, List, [], ◌∷◌, ◌++◌, length, set, get_or, filter, Option, Some, None, refl, sym, ap, ◌∙◌, subst, arith, inl, inr, replicate}
+use Rattle.std.proofs.Common.{◌≡◌, ◌≢◌, ◌&&◌, ◌-◌, ℕ, zero, suc, ◌+◌, ◌<◌, ◌≤◌, Bool, true, false, cond, if◌then◌else◌, List, [], ◌∷◌, ◌++◌, length}
+use Rattle.std.proofs.Common.{set, get_or, filter, Option, Some, None, refl, sym, ap, ◌∙◌, subst, arith, inl, inr, replicate}
 use Rattle.std.proofs.lemmas.Bool.{cases_eq, cases_lt}
 use Rattle.std.proofs.lemmas.Grind.{common_steps}
 use Rattle.std.specs.Prelude.{IfSome, option_map, option_to_list}
@@ -17,7 +18,8 @@ pub standing_filter : (es : List Entry) → assemblies_of (filter (λ e. e.stand
 standing_filter [] = refl
 standing_filter (e ∷ es) = by_test e.stands refl (standing_filter es)
   where
-    by_test : (b : Bool) → e.stands ≡ b → assemblies_of (filter (λ e. e.stands) es) ≡ assemblies_of es → assemblies_of (cond b (e ∷ filter (λ e. e.stands) es) (filter (λ e. e.stands) es)) ≡ cond b (e.assembly ∷ assemblies_of es) (assemblies_of es)
+    by_test : (b : Bool) → e.stands ≡ b → assemblies_of (filter (λ e. e.stands) es) ≡ assemblies_of es
+        → assemblies_of (cond b (e ∷ filter (λ e. e.stands) es) (filter (λ e. e.stands) es)) ≡ cond b (e.assembly ∷ assemblies_of es) (assemblies_of es)
     by_test true is rest = rw is (ap (λ xs. e.assembly ∷ xs) rest)
     by_test false is rest = rest
 
@@ -25,7 +27,8 @@ pub length_filter : (es : List Entry) → length (filter (λ e. e.stands) es) �
 length_filter [] = refl
 length_filter (e ∷ es) = by_test e.stands (length_filter es)
   where
-    by_test : (b : Bool) → length (filter (λ e. e.stands) es) ≡ length (assemblies_of es) → length (cond b (e ∷ filter (λ e. e.stands) es) (filter (λ e. e.stands) es)) ≡ length (cond b (e.assembly ∷ assemblies_of es) (assemblies_of es))
+    by_test : (b : Bool) → length (filter (λ e. e.stands) es) ≡ length (assemblies_of es)
+        → length (cond b (e ∷ filter (λ e. e.stands) es) (filter (λ e. e.stands) es)) ≡ length (cond b (e.assembly ∷ assemblies_of es) (assemblies_of es))
     by_test true rest = ap suc rest
     by_test false rest = rest
 
@@ -36,7 +39,8 @@ module _ (n : ℕ) where
   bucket_at-is (x ∷ xs) zero e within is = ap (λ (y : Entry). bucket_of n y.assembly.block y.assembly.set) (sym is)
   bucket_at-is (x ∷ xs) (suc k) e within is = bucket_at-is xs k e (omega arith) is
 
-  pub bucket_at-set : (es : List Entry) (k : ℕ) (e w : Entry) → k < length es → e ≡ get_or es k e → w.assembly.block ≡ e.assembly.block → w.assembly.set ≡ e.assembly.set
+  pub bucket_at-set : (es : List Entry) (k : ℕ) (e w : Entry) → k < length es → e ≡ get_or es k e → w.assembly.block ≡ e.assembly.block
+      → w.assembly.set ≡ e.assembly.set
       → (j : ℕ) → bucket_at n (set es k w) j ≡ bucket_at n es j
   bucket_at-set [] k e w within is block own j = absurd (omega arith)
   bucket_at-set (x ∷ xs) zero e w within is block own zero = rw (block, own) (ap (λ (y : Entry). bucket_of n y.assembly.block y.assembly.set) is)
@@ -54,7 +58,8 @@ older_at-front [] more k within = absurd (omega arith)
 older_at-front (x ∷ xs) more zero within = refl
 older_at-front (x ∷ xs) more (suc k) within = older_at-front xs more k (omega arith)
 
-older_at-set : (es : List Entry) (k : ℕ) (e w : Entry) → k < length es → e ≡ get_or es k e → w.older ≡ e.older → (j : ℕ) → older_at (set es k w) j ≡ older_at es j
+older_at-set : (es : List Entry) (k : ℕ) (e w : Entry) → k < length es → e ≡ get_or es k e → w.older ≡ e.older → (j : ℕ)
+    → older_at (set es k w) j ≡ older_at es j
 older_at-set [] k e w within is same j = absurd (omega arith)
 older_at-set (x ∷ xs) zero e w within is same zero = same ∙ ap (λ (y : Entry). y.older) is
 older_at-set (x ∷ xs) zero e w within is same (suc j) = refl
@@ -78,10 +83,12 @@ older_at-other (x ∷ xs) (suc k) zero w before = refl
 older_at-other (x ∷ xs) (suc k) (suc j) w before = older_at-other xs k j w (omega arith)
 
 -- a place written with an entry of the same assembly that stands as before
-pub standing-set : (es : List Entry) (k : ℕ) (e w : Entry) → k < length es → e ≡ get_or es k e → w.assembly ≡ e.assembly → w.stands ≡ e.stands → assemblies_of (set es k w) ≡ assemblies_of es
+pub standing-set : (es : List Entry) (k : ℕ) (e w : Entry) → k < length es → e ≡ get_or es k e → w.assembly ≡ e.assembly → w.stands
+    ≡ e.stands → assemblies_of (set es k w) ≡ assemblies_of es
 standing-set [] k e w within is same stands = absurd (omega arith)
 standing-set (x ∷ xs) zero e w within is same stands = rw (same, stands, is) refl
-standing-set (x ∷ xs) (suc k) e w within is same stands = ap (λ rest. if x.stands then x.assembly ∷ rest else rest) (standing-set xs k e w (omega arith) is same stands)
+standing-set (x ∷ xs) (suc k) e w within is same stands =
+    ap (λ rest. if x.stands then x.assembly ∷ rest else rest) (standing-set xs k e w (omega arith) is same stands)
 
 -- buckets with the newest written at one
 at-set-here : (bs : List (Option ℕ)) (b : ℕ) (o : Option ℕ) → b < length bs → at None (set bs b o) b ≡ o
@@ -176,7 +183,8 @@ module _ (es : List Entry) (bs : List (Option ℕ)) (p : ℕ) (e : Entry) (filed
     newest_filed c low = elim (cases_eq c b) [
       | inl this ↦
           subst (λ d. IsNewest (bucket_at n (set es p w)) d (p + 1) (at None (set bs b (Some p)) d)) (sym this)
-          (subst (IsNewest (bucket_at n (set es p w)) b (p + 1)) (sym (at-set-here bs b (Some p) inside)) (newest-this (bucket_at n (set es p w)) b p (same p ∙ here)))
+          (subst (IsNewest (bucket_at n (set es p w)) b (p + 1)) (sym (at-set-here bs b (Some p) inside))
+          (newest-this (bucket_at n (set es p w)) b p (same p ∙ here)))
       | inr other ↦
           subst (IsNewest (bucket_at n (set es p w)) c (p + 1)) (sym (at-set-other bs b c (Some p) other))
           (newest-more (bucket_at n (set es p w)) c p (λ clash. other (sym clash ∙ same p ∙ here)) (at None bs c)
@@ -198,7 +206,8 @@ module _ (es : List Entry) (bs : List (Option ℕ)) (p : ℕ) (e : Entry) (filed
 
     pub filed-one : AreFiled (set es p w) (set bs b (Some p)) (p + 1)
     filed-one = record {
-      newest = λ c low. subst (λ m. IsNewest (bucket_at m (set es p w)) c (p + 1) (at None (set bs b (Some p)) c)) (sym many) (newest_filed c (omega (arith, low, many)));
+      newest = λ c low. subst (λ m. IsNewest (bucket_at m (set es p w)) c (p + 1) (at None (set bs b (Some p)) c)) (sym many)
+          (newest_filed c (omega (arith, low, many)));
       older = λ k low. subst (λ m. IsNewest (bucket_at m (set es p w)) (bucket_at m (set es p w) k) k (older_at (set es p w) k)) (sym many) (older_filed k low);
     }
 
@@ -209,10 +218,12 @@ get_or-own (x ∷ xs) zero d within = refl
 get_or-own (x ∷ xs) (suc k) d within = get_or-own xs k d (omega arith)
 
 pub filed-at : (es : List Entry) (bs : List (Option ℕ)) (p : ℕ) → AreFiled es bs p → p < length es → (d : Entry) (i : ℕ) (o : Option ℕ)
-    → i ≡ bucket_of (length bs) (get_or es p d).assembly.block (get_or es p d).assembly.set → i < length bs → AreFiled (set es p (record (get_or es p d) { older = get_or bs i o })) (set bs i (Some p)) (p + 1)
+    → i ≡ bucket_of (length bs) (get_or es p d).assembly.block (get_or es p d).assembly.set → i < length bs
+    → AreFiled (set es p (record (get_or es p d) { older = get_or bs i o })) (set bs i (Some p)) (p + 1)
 filed-at es bs p filed within d i o same low =
     subst (λ j. AreFiled (set es p (record (get_or es p d) { older = get_or bs i o })) (set bs j (Some p)) (p + 1)) (sym same)
-    (filed-one es bs p (get_or es p d) filed within (get_or-own es p d within) (get_or bs i o) (omega (arith, same, low)) (ap (at None bs) (sym same) ∙ at-get bs i (get_or bs i o) low (get_or-own bs i o low)))
+    (filed-one es bs p (get_or es p d) filed within (get_or-own es p d within) (get_or bs i o) (omega (arith, same, low))
+    (ap (at None bs) (sym same) ∙ at-get bs i (get_or bs i o) low (get_or-own bs i o low)))
 
 -- where an entry keeps its bucket and its next older
 pub filed-kept : (es : List Entry) (bs : List (Option ℕ)) (m p : ℕ) (e w : Entry) → AreFiled es bs m → p < length es → e ≡ get_or es p e
@@ -224,7 +235,8 @@ filed-kept es bs m p e w filed within is block own older =
       older = λ k low.
           subst (λ c. IsNewest (bucket_at (length bs) (set es p w)) c k (older_at (set es p w) k)) (sym (same k))
           (subst (IsNewest (bucket_at (length bs) (set es p w)) (bucket_at (length bs) es k) k) (sym (older_at-set es p e w within is older k))
-          (newest-same (bucket_at (length bs) es) (bucket_at (length bs) es k) k (bucket_at (length bs) (set es p w)) same (older_at es k) (filed.older k low)));
+          (newest-same (bucket_at (length bs) es) (bucket_at (length bs) es k) k (bucket_at (length bs) (set es p w)) same (older_at es k)
+          (filed.older k low)));
     }
 
 -- where entries follow that aren't filed yet
@@ -236,14 +248,17 @@ filed-front es more bs filed =
       older = λ k low.
           subst (λ c. IsNewest (bucket_at (length bs) (es ++ more)) c k (older_at (es ++ more) k)) (sym (same k low))
           (subst (IsNewest (bucket_at (length bs) (es ++ more)) (bucket_at (length bs) es k) k) (sym (older_at-front es more k low))
-          (newest-alike (bucket_at (length bs) es) (bucket_at (length bs) es k) k (bucket_at (length bs) (es ++ more)) (λ j under. same j (omega (arith, under, low))) (older_at es k) (filed.older k low)));
+          (newest-alike (bucket_at (length bs) es) (bucket_at (length bs) es k) k (bucket_at (length bs) (es ++ more))
+          (λ j under. same j (omega (arith, under, low))) (older_at es k) (filed.older k low)));
     }
 
 pub standing-append : (es fs : List Entry) → assemblies_of (es ++ fs) ≡ assemblies_of es ++ assemblies_of fs
 standing-append [] fs = refl
 standing-append (e ∷ es) fs = by_test e.stands (standing-append es fs)
   where
-    by_test : (b : Bool) → assemblies_of (es ++ fs) ≡ assemblies_of es ++ assemblies_of fs → (cond b (e.assembly ∷ assemblies_of (es ++ fs)) (assemblies_of (es ++ fs))) ≡ (cond b (e.assembly ∷ assemblies_of es) (assemblies_of es)) ++ assemblies_of fs
+    by_test : (b : Bool) → assemblies_of (es ++ fs) ≡ assemblies_of es ++ assemblies_of fs
+        → (cond b (e.assembly ∷ assemblies_of (es ++ fs)) (assemblies_of (es ++ fs)))
+        ≡ (cond b (e.assembly ∷ assemblies_of es) (assemblies_of es)) ++ assemblies_of fs
     by_test true rest = ap (λ xs. e.assembly ∷ xs) rest
     by_test false rest = rest
 
@@ -277,7 +292,8 @@ module _ (p : ℕ → Bool) (f : ℕ → ℕ) (b : ℕ) (says : (k : ℕ) → p 
   below m (Some r) new = omega (arith, new.0)
 
   -- the walk goes on from a place to the next older of its bucket
-  pub further : (r n : ℕ) (o found : Option ℕ) → IsNewest f b r o → r < n → FirstFrom p (r + 1) n found → (t : Bool) → p r ≡ t → FirstFrom p (seen_from o) n (if t then Some r else found)
+  pub further : (r n : ℕ) (o found : Option ℕ) → IsNewest f b r o → r < n → FirstFrom p (r + 1) n found → (t : Bool) → p r ≡ t
+      → FirstFrom p (seen_from o) n (if t then Some r else found)
   further r n o found new within seen true is = (below r o new, within, is, gap r o new)
   further r n o None new within seen false is = λ k low high. elim (cases_lt k r) [
     | inl under ↦ gap r o new k low under
@@ -343,7 +359,9 @@ module _ (es : List Entry) (bs : List (Option ℕ)) (block set : ℕ) (filed : A
       → IfSome (get_or bs i d) (λ r. (r < length es) × (places r ≡ own)) × FirstFrom passes (seen_from (get_or bs i d)) (length es) None
   begin_walk i d same low =
       let within : i < length bs = omega (arith, same, low) in
-      let new : IsNewest places own (length es) (get_or bs i d) = subst (IsNewest places own (length es)) (ap (at None bs) (sym same) ∙ at-get bs i (get_or bs i d) within (get_or-own bs i d within)) (filed.newest own low) in
+      let new : IsNewest places own (length es) (get_or bs i d) =
+      subst (IsNewest places own (length es))
+      (ap (at None bs) (sym same) ∙ at-get bs i (get_or bs i d) within (get_or-own bs i d within)) (filed.newest own low) in
       (inside passes places own says_own (length es) (get_or bs i d) new, begun passes places own says_own (length es) (get_or bs i d) new)
 
   module _ (o : Option ℕ) (from : IfSome o (λ r. (r < length es) × (places r ≡ own))) (r : ℕ) (is : o ≡ Some r) where
@@ -358,7 +376,8 @@ module _ (es : List Entry) (bs : List (Option ℕ)) (block set : ℕ) (filed : A
       e = get_or es r d
 
       new_there : IsNewest places own r e.older
-      new_there = subst (IsNewest places own r) (older_at-is es r e there (get_or-own es r d there)) (subst (λ c. IsNewest places c r (older_at es r)) in_bucket (filed.older r there))
+      new_there = subst (IsNewest places own r) (older_at-is es r e there (get_or-own es r d there))
+          (subst (λ c. IsNewest places c r (older_at es r)) in_bucket (filed.older r there))
 
       pub fewer : seen_from e.older < seen_from o
       fewer = omega (arith, below passes places own says_own r e.older new_there, ap seen_from is)
@@ -368,7 +387,9 @@ module _ (es : List Entry) (bs : List (Option ℕ)) (block set : ℕ) (filed : A
       go_on found now seen is_now = (
         inside_more passes places own says_own r (length es) e.older (omega (arith, there)) (inside passes places own says_own r e.older new_there),
         subst (FirstFrom passes (seen_from e.older) (length es)) (sym is_now)
-            (further passes places own says_own r (length es) e.older found new_there there (subst (λ m. FirstFrom passes m (length es) found) (ap seen_from is) seen) (is_entry_of block set e) (passes_at-is (is_entry_of block set) es r e there (get_or-own es r d there))),
+            (further passes places own says_own r (length es) e.older found new_there there
+            (subst (λ m. FirstFrom passes m (length es) found) (ap seen_from is) seen) (is_entry_of block set e)
+            (passes_at-is (is_entry_of block set) es r e there (get_or-own es r d there))),
       )
 
 -- the place of the first that passes
@@ -376,7 +397,8 @@ module _ (q : Entry → Bool) where
   first_at : (xs : List Entry) (j : ℕ) → j < length xs → passes_at q xs j ≡ true → ((k : ℕ) → k < j → passes_at q xs k ≡ false) → position_or_len q xs ≡ j
   first_at [] j within here before = absurd (omega arith)
   first_at (x ∷ xs) zero within here before = rw here refl
-  first_at (x ∷ xs) (suc j) within here before = rw (before 0 (omega arith)) (omega (arith, first_at xs j (omega arith) here (λ k low. before (suc k) (omega arith))))
+  first_at (x ∷ xs) (suc j) within here before =
+      rw (before 0 (omega arith)) (omega (arith, first_at xs j (omega arith) here (λ k low. before (suc k) (omega arith))))
 
   none_at : (xs : List Entry) → ((k : ℕ) → k < length xs → passes_at q xs k ≡ false) → position_or_len q xs ≡ length xs
   none_at [] never = refl
@@ -396,28 +418,41 @@ module _ (block set : ℕ) where
   find-standing [] = refl
   find-standing (e ∷ es) = by_test e.stands (is_of block set e.assembly) refl (find-standing es)
     where
-      by_test : (t u : Bool) → is_of block set e.assembly ≡ u → find (is_of block set) (assemblies_of es) ≡ option_map (λ (x : Entry). x.assembly) (find (is_entry_of block set) es)
-          → find (is_of block set) (cond t (e.assembly ∷ assemblies_of es) (assemblies_of es)) ≡ option_map (λ (x : Entry). x.assembly) (cond (t && u) (Some e) (find (is_entry_of block set) es))
+      by_test : (t u : Bool) → is_of block set e.assembly ≡ u → find (is_of block set) (assemblies_of es)
+          ≡ option_map (λ (x : Entry). x.assembly) (find (is_entry_of block set) es)
+          → find (is_of block set) (cond t (e.assembly ∷ assemblies_of es) (assemblies_of es))
+          ≡ option_map (λ (x : Entry). x.assembly) (cond (t && u) (Some e) (find (is_entry_of block set) es))
       by_test true true is rest = rw is refl
       by_test true false is rest = rw is rest
       by_test false u is rest = rest
 
-  pub standing-changed : (change : Assembly → Assembly) (es : List Entry) → assemblies_of (with_first_changed (is_entry_of block set) (λ e. record e { assembly = change e.assembly }) es) ≡ with_first_changed (is_of block set) change (assemblies_of es)
+  pub standing-changed : (change : Assembly → Assembly) (es : List Entry)
+      → assemblies_of (with_first_changed (is_entry_of block set) (λ e. record e { assembly = change e.assembly }) es)
+      ≡ with_first_changed (is_of block set) change (assemblies_of es)
   standing-changed change [] = refl
   standing-changed change (e ∷ es) = by_test e.stands (is_of block set e.assembly) refl refl (standing-changed change es)
     where
-      by_test : (t u : Bool) → e.stands ≡ t → is_of block set e.assembly ≡ u → assemblies_of (with_first_changed (is_entry_of block set) (λ (x : Entry). record x { assembly = change x.assembly }) es) ≡ with_first_changed (is_of block set) change (assemblies_of es)
-          → assemblies_of (cond (t && u) (record e { assembly = change e.assembly } ∷ es) (e ∷ with_first_changed (is_entry_of block set) (λ (x : Entry). record x { assembly = change x.assembly }) es)) ≡ with_first_changed (is_of block set) change (cond t (e.assembly ∷ assemblies_of es) (assemblies_of es))
+      by_test : (t u : Bool) → e.stands ≡ t → is_of block set e.assembly ≡ u
+          → assemblies_of (with_first_changed (is_entry_of block set) (λ (x : Entry). record x { assembly = change x.assembly }) es)
+          ≡ with_first_changed (is_of block set) change (assemblies_of es)
+          → assemblies_of (cond (t && u) (record e { assembly = change e.assembly } ∷ es)
+          (e ∷ with_first_changed (is_entry_of block set) (λ (x : Entry). record x { assembly = change x.assembly }) es))
+          ≡ with_first_changed (is_of block set) change (cond t (e.assembly ∷ assemblies_of es) (assemblies_of es))
       by_test true true stands is rest = rw (stands, is) refl
       by_test true false stands is rest = rw (stands, is) (ap (λ xs. e.assembly ∷ xs) rest)
       by_test false u stands is rest = rw stands rest
 
-  pub standing-struck : (es : List Entry) → assemblies_of (with_first_changed (is_entry_of block set) (λ e. record e { stands = false }) es) ≡ without_first (is_of block set) (assemblies_of es)
+  pub standing-struck : (es : List Entry)
+      → assemblies_of (with_first_changed (is_entry_of block set) (λ e. record e { stands = false }) es) ≡ without_first (is_of block set) (assemblies_of es)
   standing-struck [] = refl
   standing-struck (e ∷ es) = by_test e.stands (is_of block set e.assembly) refl refl (standing-struck es)
     where
-      by_test : (t u : Bool) → e.stands ≡ t → is_of block set e.assembly ≡ u → assemblies_of (with_first_changed (is_entry_of block set) (λ (x : Entry). record x { stands = false }) es) ≡ without_first (is_of block set) (assemblies_of es)
-          → assemblies_of (cond (t && u) (record e { stands = false } ∷ es) (e ∷ with_first_changed (is_entry_of block set) (λ (x : Entry). record x { stands = false }) es)) ≡ without_first (is_of block set) (cond t (e.assembly ∷ assemblies_of es) (assemblies_of es))
+      by_test : (t u : Bool) → e.stands ≡ t → is_of block set e.assembly ≡ u
+          → assemblies_of (with_first_changed (is_entry_of block set) (λ (x : Entry). record x { stands = false }) es)
+          ≡ without_first (is_of block set) (assemblies_of es)
+          → assemblies_of (cond (t && u) (record e { stands = false } ∷ es)
+          (e ∷ with_first_changed (is_entry_of block set) (λ (x : Entry). record x { stands = false }) es))
+          ≡ without_first (is_of block set) (cond t (e.assembly ∷ assemblies_of es) (assemblies_of es))
       by_test true true stands is rest = rw is refl
       by_test true false stands is rest = rw (stands, is) (ap (λ xs. e.assembly ∷ xs) rest)
       by_test false u stands is rest = rw stands rest
@@ -436,7 +471,8 @@ module _ {A : Type 0} (p : A → Bool) where
   changed-none change [] none = refl
   changed-none change (x ∷ xs) none = by_test (p x) none (changed-none change xs)
     where
-      by_test : (t : Bool) → cond t (Some x) (find p xs) ≡ None → (find p xs ≡ None → with_first_changed p change xs ≡ xs) → cond t (change x ∷ xs) (x ∷ with_first_changed p change xs) ≡ x ∷ xs
+      by_test : (t : Bool) → cond t (Some x) (find p xs) ≡ None → (find p xs ≡ None → with_first_changed p change xs ≡ xs)
+          → cond t (change x ∷ xs) (x ∷ with_first_changed p change xs) ≡ x ∷ xs
       by_test true here rest = absurd cc
       by_test false here rest = ap (λ ys. x ∷ ys) (rest here)
 
@@ -445,7 +481,8 @@ module _ {A : Type 0} (p : A → Bool) where
   length_without [] = refl
   length_without (x ∷ xs) = by_test (p x) (length_without xs)
     where
-      by_test : (t : Bool) → length (without_first p xs) + length (option_to_list (find p xs)) ≡ length xs → length (cond t xs (x ∷ without_first p xs)) + length (option_to_list (cond t (Some x) (find p xs))) ≡ suc (length xs)
+      by_test : (t : Bool) → length (without_first p xs) + length (option_to_list (find p xs)) ≡ length xs
+          → length (cond t xs (x ∷ without_first p xs)) + length (option_to_list (cond t (Some x) (find p xs))) ≡ suc (length xs)
       by_test true rest = omega arith
       by_test false rest = omega (arith, rest)
 
@@ -453,7 +490,8 @@ module _ {A : Type 0} (p : A → Bool) where
   length_changed change [] = refl
   length_changed change (x ∷ xs) = by_test (p x) (length_changed change xs)
     where
-      by_test : (t : Bool) → length (with_first_changed p change xs) ≡ length xs → length (cond t (change x ∷ xs) (x ∷ with_first_changed p change xs)) ≡ suc (length xs)
+      by_test : (t : Bool) → length (with_first_changed p change xs) ≡ length xs
+          → length (cond t (change x ∷ xs) (x ∷ with_first_changed p change xs)) ≡ suc (length xs)
       by_test true rest = refl
       by_test false rest = ap suc rest
 
@@ -472,18 +510,23 @@ module _ (block number : ℕ) (es : List Entry) (i : ℕ) (at : position (is_ent
   found-here = find-standing block number es ∙ ap (option_map (λ (e : Entry). e.assembly)) (found (is_entry_of block number) es i at spot spot_is)
 
   pub changed-here : (m : ℕ) → m ≡ spot.assembly.missing - 1
-      → assemblies_of (set es i (record spot { assembly = record spot.assembly { missing = m } })) ≡ with_first_changed (is_of block number) (λ a. record a { missing = a.missing - 1 }) (assemblies_of es)
+      → assemblies_of (set es i (record spot { assembly = record spot.assembly { missing = m } }))
+      ≡ with_first_changed (is_of block number) (λ a. record a { missing = a.missing - 1 }) (assemblies_of es)
   changed-here m is =
       ap (λ k. assemblies_of (set es i (record spot { assembly = record spot.assembly { missing = k } }))) is
-      ∙ ap assemblies_of (changed (is_entry_of block number) es i at (λ e. record e { assembly = record e.assembly { missing = e.assembly.missing - 1 } }) spot spot_is)
+      ∙ ap assemblies_of (changed (is_entry_of block number) es i at
+      (λ e. record e { assembly = record e.assembly { missing = e.assembly.missing - 1 } }) spot spot_is)
       ∙ standing-changed block number (λ a. record a { missing = a.missing - 1 }) es
 
   pub struck-here : assemblies_of (set es i (record spot { stands = false })) ≡ without_first (is_of block number) (assemblies_of es)
   struck-here = ap assemblies_of (changed (is_entry_of block number) es i at (λ e. record e { stands = false }) spot spot_is) ∙ standing-struck block number es
 
-  pub kept-here : (bs : List (Option ℕ)) → AreFiled es bs (length es) → (w : Entry) → w.assembly.block ≡ spot.assembly.block → w.assembly.set ≡ spot.assembly.set → w.older ≡ spot.older
+  pub kept-here : (bs : List (Option ℕ)) → AreFiled es bs (length es) → (w : Entry) → w.assembly.block ≡ spot.assembly.block
+      → w.assembly.set ≡ spot.assembly.set → w.older ≡ spot.older
       → AreFiled (set es i w) bs (length (set es i w))
-  kept-here bs filed e block_same set_same older_same = subst (AreFiled (set es i e) bs) (sym (length-set es i e)) (filed-kept es bs (length es) i spot e filed spot_within spot_is block_same set_same older_same)
+  kept-here bs filed e block_same set_same older_same =
+      subst (AreFiled (set es i e) bs) (sym (length-set es i e))
+      (filed-kept es bs (length es) i spot e filed spot_within spot_is block_same set_same older_same)
 
 -- where there is none
 pub found-none : (block set : ℕ) (es : List Entry) → position (is_entry_of block set) es ≡ None → find (is_of block set) (assemblies_of es) ≡ None

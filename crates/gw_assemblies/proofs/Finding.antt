@@ -1,5 +1,6 @@
 -- The first of a list that passes a test: it is found and changed at its place.
-use Rattle.std.proofs.Common.{◌≡◌, ℕ, zero, suc, ◌+◌, ◌<◌, Bool, true, false, cond, not, List, [], ◌∷◌, length, set, get_or, Some, None, refl, sym, ap, arith, ◌≤◌}
+use Rattle.std.proofs.Common.{◌≡◌, ℕ, zero, suc, ◌+◌, ◌<◌, Bool, true, false, cond, not, List, [], ◌∷◌, length, set, get_or, Some, None, refl, sym}
+use Rattle.std.proofs.Common.{ap, arith, ◌≤◌}
 use Rattle.std.proofs.lemmas.Grind.{common_steps}
 use Rattle.std.specs.List.{find, position, position_or_len}
 use Rattle.gw_members.specs.Firsts.{with_first_changed}
@@ -21,20 +22,25 @@ module _ {A : Type 0} (passes : A → Bool) where
       by_test false here = absurd (omega (arith, here))
   found_first (y ∷ ys) (suc i) x at within is = by_test (passes y) at (λ here. found_first ys i x here (omega (arith, within)) is)
     where
-      by_test : (b : Bool) → suc i ≡ cond (not b) (1 + position_or_len passes ys) 0 → (i ≡ position_or_len passes ys → find passes ys ≡ Some x) → cond b (Some y) (find passes ys) ≡ Some x
+      by_test : (b : Bool) → suc i ≡ cond (not b) (1 + position_or_len passes ys) 0
+          → (i ≡ position_or_len passes ys → find passes ys ≡ Some x) → cond b (Some y) (find passes ys) ≡ Some x
       by_test true here rest = absurd (omega (arith, here))
       by_test false here rest = rest (omega (arith, here))
 
-  changed_first : (change : A → A) (xs : List A) (i : ℕ) (x : A) → i ≡ position_or_len passes xs → i < length xs → x ≡ get_or xs i x → set xs i (change x) ≡ with_first_changed passes change xs
+  changed_first : (change : A → A) (xs : List A) (i : ℕ) (x : A) → i ≡ position_or_len passes xs → i < length xs → x ≡ get_or xs i x
+      → set xs i (change x) ≡ with_first_changed passes change xs
   changed_first change [] i x at within is = absurd (omega (arith, within))
   changed_first change (y ∷ ys) zero x at within is = by_test (passes y) at
     where
-      by_test : (b : Bool) → 0 ≡ cond (not b) (1 + position_or_len passes ys) 0 → change x ∷ ys ≡ cond b (change y ∷ ys) (y ∷ with_first_changed passes change ys)
+      by_test : (b : Bool) → 0 ≡ cond (not b) (1 + position_or_len passes ys) 0 → change x ∷ ys
+          ≡ cond b (change y ∷ ys) (y ∷ with_first_changed passes change ys)
       by_test true here = ap (λ z. change z ∷ ys) is
       by_test false here = absurd (omega (arith, here))
   changed_first change (y ∷ ys) (suc i) x at within is = by_test (passes y) at (λ here. changed_first change ys i x here (omega (arith, within)) is)
     where
-      by_test : (b : Bool) → suc i ≡ cond (not b) (1 + position_or_len passes ys) 0 → (i ≡ position_or_len passes ys → set ys i (change x) ≡ with_first_changed passes change ys) → y ∷ set ys i (change x) ≡ cond b (change y ∷ ys) (y ∷ with_first_changed passes change ys)
+      by_test : (b : Bool) → suc i ≡ cond (not b) (1 + position_or_len passes ys) 0
+          → (i ≡ position_or_len passes ys → set ys i (change x) ≡ with_first_changed passes change ys) → y ∷ set ys i (change x)
+          ≡ cond b (change y ∷ ys) (y ∷ with_first_changed passes change ys)
       by_test true here rest = absurd (omega (arith, here))
       by_test false here rest = ap (λ zs. y ∷ zs) (rest (omega (arith, here)))
 
@@ -54,7 +60,8 @@ module _ {A : Type 0} (passes : A → Bool) where
   missed_all [] past = refl
   missed_all (y ∷ ys) past = by_test (passes y) past (missed_all ys)
     where
-      by_test : (b : Bool) → suc (length ys) ≤ cond (not b) (1 + position_or_len passes ys) 0 → (length ys ≤ position_or_len passes ys → find passes ys ≡ None) → cond b (Some y) (find passes ys) ≡ None
+      by_test : (b : Bool) → suc (length ys) ≤ cond (not b) (1 + position_or_len passes ys) 0
+          → (length ys ≤ position_or_len passes ys → find passes ys ≡ None) → cond b (Some y) (find passes ys) ≡ None
       by_test true beyond rest = absurd (omega (arith, beyond))
       by_test false beyond rest = rest (omega (arith, beyond))
 

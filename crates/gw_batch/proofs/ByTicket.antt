@@ -37,7 +37,8 @@ refused_object (Err fault) refusal text refused why (is, inl line) = (is, either
 refused_object (Err fault) refusal text refused why (is, inr line) = (is, inr line)
 
 -- what is told of a job that the service refused
-pub service_told : (j : Job) (fault : JobFault) (refusal : Fault) (text : List ℕ) (refused : Bool) → refusal ≡ job_refusal fault → IsRefusalTold refusal text refused → IsJobTold j text refused
+pub service_told : (j : Job) (fault : JobFault) (refusal : Fault) (text : List ℕ) (refused : Bool) → refusal ≡ job_refusal fault
+    → IsRefusalTold refusal text refused → IsJobTold j text refused
 service_told j fault refusal text refused same told = refused_object (Ok j) refusal text refused (fault, same) told
 
 pub told_of : (i : ℕ) (e : Entry) (t : Ticket) (text : List ℕ) (refused : Bool) → IsTicket i e t → TellsTicket t text refused → IsTold e text refused
@@ -55,7 +56,8 @@ object_ticket i bytes j (tickets.Refused refusal) has ticket = rw has ticket
 object_ticket i bytes j (tickets.Broken line) has ticket = absurd ticket
 
 -- the ticket of an object for which memory ran out
-memory_refused : (r : Result Job Fault) → MatchResult r (λ j. (fault : JobFault) × (nowhere memory ≡ job_refusal fault)) (λ fault. (nowhere memory ≡ fault) ⊎ (nowhere memory ≡ nowhere memory))
+memory_refused : (r : Result Job Fault)
+    → MatchResult r (λ j. (fault : JobFault) × (nowhere memory ≡ job_refusal fault)) (λ fault. (nowhere memory ≡ fault) ⊎ (nowhere memory ≡ nowhere memory))
 memory_refused (Ok j) = (Memory, refl)
 memory_refused (Err fault) = inr refl
 

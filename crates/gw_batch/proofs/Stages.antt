@@ -1,5 +1,6 @@
 -- From stage to stage of a batch.
-use Rattle.std.proofs.Common.{◌≡◌, ◌+◌, ◌≤◌, ℕ, zero, suc, List, [], ◌∷◌, ◌++◌, append_assoc, append-nil, length, length-append, take, Option, Result, Ok, Err, MatchResult, Bool, ◌||◌, true, false, arith, refl, sym, subst, ap, ◌∙◌}
+use Rattle.std.proofs.Common.{◌≡◌, ◌+◌, ◌≤◌, ℕ, zero, suc, List, [], ◌∷◌, ◌++◌, append_assoc, append-nil, length, length-append, take, Option, Result}
+use Rattle.std.proofs.Common.{Ok, Err, MatchResult, Bool, ◌||◌, true, false, arith, refl, sym, subst, ap, ◌∙◌}
 use Rattle.std.proofs.Math.Seq.{take-add}
 use Rattle.std.proofs.lemmas.List.{take_at, drop_at}
 use Rattle.std.specs.Io.KnownBytes.{Appends}
@@ -49,11 +50,13 @@ go_on a b c h k = record {
   refused = k.refused ∙ ap (λ r. r || k.other) h.refused ∙ or_assoc a.telling.refused h.other k.other;
   behind = λ later others parts.
       let both = h.behind (k.text ++ later) (k.other || others) (k.behind later others parts) in
-      subst (λ b. AreParts a.telling.number a.waiting ((h.text ++ k.text) ++ later) b) (sym (or_assoc h.other k.other others)) (rw (append_assoc h.text k.text later) both);
+      subst (λ b. AreParts a.telling.number a.waiting ((h.text ++ k.text) ++ later) b) (sym (or_assoc h.other k.other others))
+      (rw (append_assoc h.text k.text later) both);
 }
 
 -- an entry is told
-pub one_told : (t u : Telling) (e : Entry) (es : List Entry) (old new : Option (List ℕ)) (told : List ℕ) (one : Bool) → IsTold e told one → Appends old new (job_line t.number ++ told)
+pub one_told : (t u : Telling) (e : Entry) (es : List Entry) (old new : Option (List ℕ)) (told : List ℕ) (one : Bool) → IsTold e told one
+    → Appends old new (job_line t.number ++ told)
     → u.number ≡ t.number + 1 → u.refused ≡ (t.refused || one) → Advances (stage t (e ∷ es) old) (stage u es new)
 one_told t u e es old new told one is written next refused = record {
   text = job_line t.number ++ told;
@@ -87,7 +90,8 @@ take_both xs ys n = take-add (length xs) n (xs ++ ys) ∙ rw (take_at xs ys (len
 
 -- a front of a text is one of a longer text
 pub longer : (old new : Option (List ℕ)) (text more : List ℕ) → AppendsFront old new text → AppendsFront old new (text ++ more)
-longer old new text more front = (front.0, omega (arith, front.1, length-append text more), subst (Appends old new) (sym (front_of text more front.0 front.1)) front.2)
+longer old new text more front =
+    (front.0, omega (arith, front.1, length-append text more), subst (Appends old new) (sym (front_of text more front.0 front.1)) front.2)
 
 -- behind a text a front of the next
 behind_text : (a b c : Option (List ℕ)) (text more : List ℕ) → Appends a b text → AppendsFront b c more → AppendsFront a c (text ++ more)
@@ -105,7 +109,8 @@ after_line (Ok x) a b c line text first h = Appends-trans a b c line text first 
 after_line (Err fault) a b c line text first h = (h.0, behind_text a b c line text first h.1)
 
 -- an entry of whose part a front is written
-pub stopped_in : (t : Telling) (e : Entry) (es : List Entry) (old new : Option (List ℕ)) (told : List ℕ) (one : Bool) → IsTold e told one → AppendsFront old new (job_line t.number ++ told)
+pub stopped_in : (t : Telling) (e : Entry) (es : List Entry) (old new : Option (List ℕ)) (told : List ℕ) (one : Bool) → IsTold e told one
+    → AppendsFront old new (job_line t.number ++ told)
     → Halts (stage t (e ∷ es) old) new
 stopped_in t e es old new told one is front =
     let rest = some_parts (t.number + 1) es in (
@@ -124,7 +129,8 @@ stopped_at_end t old new front = ([], false, (refl, refl), front)
 
 -- THE WHOLE
 
-pub all_told : (t : Telling) (es : List Entry) (old new : Option (List ℕ)) (status : ℕ) → Advances (stage (telling_of 0 false) es old) (stage t [] new) → status ≡ status_if t.refused
+pub all_told : (t : Telling) (es : List Entry) (old new : Option (List ℕ)) (status : ℕ)
+    → Advances (stage (telling_of 0 false) es old) (stage t [] new) → status ≡ status_if t.refused
     → WritesBatch es status old new
 all_told t es old new status h is =
     let parts = h.behind [] false (refl, refl) in

@@ -15,6 +15,7 @@ waits_too ws w e es all same made =
     ∙ ap (λ x. map waiting_entry ws ++ (x ∷ map entry_of es)) same ∙ made
 
 -- all wait
-pub all_wait : (ws : List Waiting) (es : List StoredEntry) (all : List Entry) → length es ≡ 0 → map waiting_entry ws ++ map entry_of es ≡ all → map waiting_entry ws ≡ all
+pub all_wait : (ws : List Waiting) (es : List StoredEntry) (all : List Entry) → length es ≡ 0 → map waiting_entry ws ++ map entry_of es
+    ≡ all → map waiting_entry ws ≡ all
 all_wait ws [] all none made = sym (append-nil (map waiting_entry ws)) ∙ made
 all_wait ws (e ∷ es) all none made = absurd cc

@@ -7,9 +7,18 @@ use Rattle.gw_blocks.specs.declared.parts.Operand.TheVariants.{Constant, Paramet
 use Rattle.gw_blocks.specs.declared.parts.Block.{Block}
 use Rattle.gw_blocks.specs.declared.parts.Block.TheVariants as blocks
 use Rattle.gw_fields.specs.Fields.{Field, behind, byte, form_read, signed_number, nothing, optional}
-use Rattle.gw_blocks.specs.Grammar.{parameter_number, stream_number, attribute_byte, attributes, attribute, entity_attribute_byte, entity_attributes, NumberedFits, numbered_field, OperandFits, operand_spelling, operand_forms, operand_read, operand, mode_byte, modes, mode, AssignFits, assign, comparison_byte, comparisons, TestFits, test_operands, condition_byte, conditions, GateFits, gate, CallFits, call, LoopFits, countdown, SplitFits, split, set_size, order_byte, orders, LinkFits, link, UnlinkFits, unlink, action_byte, actions, LogicFits, logic, SaveFits, save, PriorityFits, priority, PlusFits, plus, SpreadFits, spread, GenerateFits, generate, entity_number, procedure_number, UnitsFit, units, block_number, FractionFits, fraction, BothFits, choice, has_choices, block_spelling, tag_form, block_forms, forms_where, block_read, block}
+use Rattle.gw_blocks.specs.Grammar.{parameter_number, stream_number, attribute_byte, attributes, attribute, entity_attribute_byte, entity_attributes}
+use Rattle.gw_blocks.specs.Grammar.{NumberedFits, numbered_field, OperandFits, operand_spelling, operand_forms, operand_read, operand, mode_byte}
+use Rattle.gw_blocks.specs.Grammar.{modes, mode, AssignFits, assign, comparison_byte, comparisons, TestFits, test_operands, condition_byte}
+use Rattle.gw_blocks.specs.Grammar.{conditions, GateFits, gate, CallFits, call, LoopFits, countdown, SplitFits, split, set_size, order_byte, orders}
+use Rattle.gw_blocks.specs.Grammar.{LinkFits, link, UnlinkFits, unlink, action_byte, actions, LogicFits, logic, SaveFits, save, PriorityFits}
+use Rattle.gw_blocks.specs.Grammar.{priority, PlusFits, plus, SpreadFits, spread, GenerateFits, generate, entity_number, procedure_number, UnitsFit}
+use Rattle.gw_blocks.specs.Grammar.{units, block_number, FractionFits, fraction, BothFits, choice, has_choices, block_spelling, tag_form, block_forms}
+use Rattle.gw_blocks.specs.Grammar.{forms_where, block_read, block}
 use Rattle.gw_field_bytes.proofs.OneOf.{one_of_exact, flag_exact}
-use Rattle.gw_field_bytes.proofs.Exact.{ReadsBack, ◌also◌, tag_reads_back, IsExactForm, AreExactForms, behind_exact, by_tag_exact, IsExact, byte_exact, wide16, wide32, wide64, number_exact, signed_exact, made_exact, both_exact, fitting_exact, ranged_exact, nothing_exact, optional_exact}
+use Rattle.gw_field_bytes.proofs.Exact.{ReadsBack, ◌also◌, tag_reads_back, IsExactForm, AreExactForms, behind_exact, by_tag_exact, IsExact}
+use Rattle.gw_field_bytes.proofs.Exact.{byte_exact, wide16, wide32, wide64, number_exact, signed_exact, made_exact, both_exact, fitting_exact}
+use Rattle.gw_field_bytes.proofs.Exact.{ranged_exact, nothing_exact, optional_exact}
 
 -- ---- numbers
 
@@ -32,7 +41,8 @@ attribute_exact = one_of_exact attribute_byte attributes (λ x. search rules)
 
 pub numbered_exact : IsExact numbered_field
 numbered_exact = fitting_exact NumberedFits _ (λ n h. h.1) (λ n h. (tt, h))
-    (made_exact _ _ _ (λ x h. refl) (λ n h. refl) (both_exact _ _ (one_of_exact entity_attribute_byte entity_attributes (λ x. search rules)) (number_exact w16 wide16)))
+    (made_exact _ _ _ (λ x h. refl) (λ n h. refl)
+    (both_exact _ _ (one_of_exact entity_attribute_byte entity_attributes (λ x. search rules)) (number_exact w16 wide16)))
 
 operand_forms_exact : AreExactForms operand_spelling OperandFits operand_forms
 operand_forms_exact =
@@ -68,7 +78,8 @@ generate_exact = fitting_exact GenerateFits _
     (λ g h. record { interval = h.0; first = h.1.0; limit = h.1.1.0; priority = h.1.1.1 })
     (λ g h. (h.interval, (h.first, (h.limit, h.priority))))
     (made_exact _ _ _ (λ x h. refl) (λ g h. refl)
-    (both_exact _ _ spread_exact (both_exact _ _ (optional_exact _ (signed_exact w64 wide64)) (both_exact _ _ (optional_exact _ (number_exact w32 wide32)) (signed_exact w32 wide32)))))
+    (both_exact _ _ spread_exact
+    (both_exact _ _ (optional_exact _ (signed_exact w64 wide64)) (both_exact _ _ (optional_exact _ (number_exact w32 wide32)) (signed_exact w32 wide32)))))
 
 pub units_exact : IsExact units
 units_exact = fitting_exact UnitsFit _ (λ u h. record { entity = h.0; number = h.1 }) (λ u h. (h.entity, h.number))
@@ -81,7 +92,8 @@ pub fraction_exact : IsExact fraction
 fraction_exact = fitting_exact FractionFits _
     (λ f h. record { thousandths = h.0; otherwise = h.1.0; target = h.1.1 })
     (λ f h. (h.thousandths, (h.otherwise, h.target)))
-    (made_exact _ _ _ (λ x h. refl) (λ f h. refl) (both_exact _ _ (number_exact w16 wide16) (both_exact _ _ (optional_exact _ block_number_exact) block_number_exact)))
+    (made_exact _ _ _ (λ x h. refl) (λ f h. refl)
+    (both_exact _ _ (number_exact w16 wide16) (both_exact _ _ (optional_exact _ block_number_exact) block_number_exact)))
 
 choice_exact : IsExact choice
 choice_exact = fitting_exact BothFits _ (λ t h. record { first = h.0; second = h.1 }) (λ t h. (h.first, h.second))
@@ -100,11 +112,13 @@ otherwise_exact = optional_exact block_number block_number_exact
 pub test_exact : IsExact test_operands
 test_exact = fitting_exact TestFits _ (λ t h. record { left = h.1.0; right = h.1.1.0; otherwise = h.1.1.1 }) (λ t h. (tt, (h.left, (h.right, h.otherwise))))
     (made_exact _ _ _ (λ x h. refl) (λ t h. refl)
-    (both_exact _ _ (one_of_exact comparison_byte comparisons (λ x. search rules)) (both_exact _ _ operand_exact (both_exact _ _ operand_exact otherwise_exact))))
+    (both_exact _ _ (one_of_exact comparison_byte comparisons (λ x. search rules))
+    (both_exact _ _ operand_exact (both_exact _ _ operand_exact otherwise_exact))))
 
 pub gate_exact : IsExact gate
 gate_exact = fitting_exact GateFits _ (λ g h. record { entity = h.1.0; otherwise = h.1.1 }) (λ g h. (tt, (h.entity, h.otherwise)))
-    (made_exact _ _ _ (λ x h. refl) (λ g h. refl) (both_exact _ _ (one_of_exact condition_byte conditions (λ x. search rules)) (both_exact _ _ entity_number_exact otherwise_exact)))
+    (made_exact _ _ _ (λ x h. refl) (λ g h. refl)
+    (both_exact _ _ (one_of_exact condition_byte conditions (λ x. search rules)) (both_exact _ _ entity_number_exact otherwise_exact)))
 
 pub call_exact : IsExact call
 call_exact = fitting_exact CallFits _ (λ c h. record { target = h.0; parameter = h.1 }) (λ c h. (h.target, h.parameter))
@@ -127,7 +141,8 @@ link_exact = fitting_exact LinkFits _ (λ l h. h.0) (λ l h. (h, tt))
 
 pub unlink_exact : IsExact unlink
 unlink_exact = fitting_exact UnlinkFits _ (λ u h. record { chain = h.0; target = h.1.0; most = h.1.1 }) (λ u h. (h.chain, (h.target, h.most)))
-    (made_exact _ _ _ (λ x h. refl) (λ u h. refl) (both_exact _ _ entity_number_exact (both_exact _ _ block_number_exact (optional_exact _ (number_exact w32 wide32)))))
+    (made_exact _ _ _ (λ x h. refl) (λ u h. refl)
+    (both_exact _ _ entity_number_exact (both_exact _ _ block_number_exact (optional_exact _ (number_exact w32 wide32)))))
 
 pub logic_exact : IsExact logic
 logic_exact = fitting_exact LogicFits _ (λ l h. h.1) (λ l h. (tt, h))
@@ -153,7 +168,8 @@ abbrev FitsVersion : ℕ → Block → Type 0
 FitsVersion version = (block version).Fits
 
 -- the forms of version 1 have tags of their own: another tag is found among them in each version
-found_in_each : (b : Bool) (tag : ℕ) (bytes rest : List ℕ) → eqb tag 29 ≡ false → form_read (forms_where b) tag bytes rest ≡ form_read block_forms tag bytes rest
+found_in_each : (b : Bool) (tag : ℕ) (bytes rest : List ℕ) → eqb tag 29 ≡ false → form_read (forms_where b) tag bytes rest
+    ≡ form_read block_forms tag bytes rest
 found_in_each false tag bytes rest other = refl
 found_in_each true tag bytes rest other = rw other refl
 
@@ -163,12 +179,14 @@ tag_of block = get_or (block_spelling block) 0 0
 
 module _ (version : ℕ) where
   -- a kind of block whose operands are those of a field
-  block_form_exact : {A : Type 0} (tag : ℕ) (make : A → Block) (f : Field A) → ((x : A) → tag ∷ f.spell x ≡ block_spelling (make x)) → ((x : A) → f.Fits x → FitsVersion version (make x)) → IsExact f
+  block_form_exact : {A : Type 0} (tag : ℕ) (make : A → Block) (f : Field A) → ((x : A) → tag ∷ f.spell x ≡ block_spelling (make x))
+      → ((x : A) → f.Fits x → FitsVersion version (make x)) → IsExact f
       → IsExactForm block_spelling (FitsVersion version) (behind tag make f)
   block_form_exact tag make f spelled fit exact = behind_exact block_spelling (FitsVersion version) tag make f spelled fit exact
 
   -- and one without operands
-  tag_form_exact : (tag : ℕ) (block : Block) → tag ∷ [] ≡ block_spelling block → FitsVersion version block → IsExactForm block_spelling (FitsVersion version) (tag_form tag block)
+  tag_form_exact : (tag : ℕ) (block : Block) → tag ∷ [] ≡ block_spelling block → FitsVersion version block
+      → IsExactForm block_spelling (FitsVersion version) (tag_form tag block)
   tag_form_exact tag block spelled fit = block_form_exact tag (λ _. block) nothing (λ _. spelled) (λ _ _. fit) nothing_exact
 
   block_forms_exact : AreExactForms block_spelling (FitsVersion version) block_forms
@@ -207,12 +225,16 @@ module _ (version : ℕ) where
   forms_exact true is = block_form_exact 29 (λ t. blocks.TransferBoth t) choice (λ t. refl) (λ t h. (is, h)) choice_exact also block_forms_exact
 
   -- a block of each version is read back
-  reads_back : {A : Type 0} (tag : ℕ) (make : A → Block) (f : Field A) → eqb tag 29 ≡ false → ((bytes rest : List ℕ) → form_read block_forms tag bytes rest ≡ (behind tag make f).1 rest) → IsExact f → (x : A) → f.Fits x → ReadsBack (block_read version) (tag ∷ f.spell x) (make x)
+  reads_back : {A : Type 0} (tag : ℕ) (make : A → Block) (f : Field A) → eqb tag 29 ≡ false
+      → ((bytes rest : List ℕ) → form_read block_forms tag bytes rest ≡ (behind tag make f).1 rest) → IsExact f → (x : A) → f.Fits x
+      → ReadsBack (block_read version) (tag ∷ f.spell x) (make x)
   unfolding block_read
   reads_back tag make f other found exact x fits =
-      tag_reads_back (forms_where (has_choices version)) tag make f (λ bytes rest. found_in_each (has_choices version) tag bytes rest other ∙ found bytes rest) exact x fits
+      tag_reads_back (forms_where (has_choices version)) tag make f
+      (λ bytes rest. found_in_each (has_choices version) tag bytes rest other ∙ found bytes rest) exact x fits
 
-  choice_found : (bytes rest : List ℕ) → IsTrue (has_choices version) → form_read (forms_where (has_choices version)) 29 bytes rest ≡ (behind 29 (λ t. blocks.TransferBoth t) choice).1 rest
+  choice_found : (bytes rest : List ℕ) → IsTrue (has_choices version) → form_read (forms_where (has_choices version)) 29 bytes rest
+      ≡ (behind 29 (λ t. blocks.TransferBoth t) choice).1 rest
   choice_found bytes rest has = rw has refl
 
   block_reads_back : (b : Block) → FitsVersion version b → ReadsBack (block_read version) (block_spelling b) b
@@ -231,9 +253,12 @@ module _ (version : ℕ) where
   block_reads_back (blocks.Gate g) fits = reads_back 12 (λ g. blocks.Gate g) gate refl (λ _ _. refl) gate_exact g fits.1
   block_reads_back (blocks.Transfer n) fits = reads_back 13 (λ n. blocks.Transfer n) block_number refl (λ _ _. refl) block_number_exact n fits.1
   block_reads_back (blocks.TransferByFraction f) fits = reads_back 14 (λ f. blocks.TransferByFraction f) fraction refl (λ _ _. refl) fraction_exact f fits.1
-  block_reads_back (blocks.TransferBoth t) fits = tag_reads_back (forms_where (has_choices version)) 29 (λ t. blocks.TransferBoth t) choice (λ bytes rest. choice_found bytes rest fits.0) choice_exact t fits.1
+  block_reads_back (blocks.TransferBoth t) fits =
+      tag_reads_back (forms_where (has_choices version)) 29 (λ t. blocks.TransferBoth t) choice
+      (λ bytes rest. choice_found bytes rest fits.0) choice_exact t fits.1
   block_reads_back (blocks.TransferToSubroutine c) fits = reads_back 15 (λ c. blocks.TransferToSubroutine c) call refl (λ _ _. refl) call_exact c fits.1
-  block_reads_back (blocks.TransferByParameter p) fits = reads_back 16 (λ p. blocks.TransferByParameter p) parameter_number refl (λ _ _. refl) parameter_number_exact p fits.1
+  block_reads_back (blocks.TransferByParameter p) fits =
+      reads_back 16 (λ p. blocks.TransferByParameter p) parameter_number refl (λ _ _. refl) parameter_number_exact p fits.1
   block_reads_back (blocks.Loop l) fits = reads_back 17 (λ l. blocks.Loop l) countdown refl (λ _ _. refl) countdown_exact l fits.1
   block_reads_back (blocks.Split s) fits = reads_back 18 (λ s. blocks.Split s) split refl (λ _ _. refl) split_exact s fits.1
   block_reads_back (blocks.Assemble n) fits = reads_back 19 (λ n. blocks.Assemble n) set_size refl (λ _ _. refl) set_size_exact n fits.1

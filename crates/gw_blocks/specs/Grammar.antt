@@ -5,7 +5,9 @@ use Rattle.gw_blocks.specs.Limits.{most_parameters, most_streams}
 use Rattle.gw_blocks.specs.declared.parts.Attribute.{Attribute as OwnAttribute}
 use Rattle.gw_blocks.specs.declared.parts.Attribute.TheVariants.{Clock, AbsoluteClock, Priority, TransitTime, TransactionNumber, TerminationCount}
 use Rattle.gw_blocks.specs.declared.parts.EntityAttribute.{EntityAttribute}
-use Rattle.gw_blocks.specs.declared.parts.EntityAttribute.TheVariants.{FacilityOwned, StorageContent, StorageRemaining, QueueContent, SavevalueValue, SwitchSetting, ChainMembers, VariableValue, BooleanValue, FunctionValue, BlockEntries, BlockCount}
+use Rattle.gw_blocks.specs.declared.parts.EntityAttribute.TheVariants.{FacilityOwned, StorageContent, StorageRemaining, QueueContent, SavevalueValue}
+use Rattle.gw_blocks.specs.declared.parts.EntityAttribute.TheVariants.{SwitchSetting, ChainMembers, VariableValue, BooleanValue, FunctionValue}
+use Rattle.gw_blocks.specs.declared.parts.EntityAttribute.TheVariants.{BlockEntries, BlockCount}
 use Rattle.gw_blocks.specs.declared.parts.Numbered.{Numbered}
 use Rattle.gw_blocks.specs.declared.parts.Operand.{Operand}
 use Rattle.gw_blocks.specs.declared.parts.Operand.TheVariants.{Constant, Parameter, Attribute, OfEntity, Random, Procedure}
@@ -22,7 +24,8 @@ use Rattle.gw_blocks.specs.declared.parts.Comparison.{Comparison}
 use Rattle.gw_blocks.specs.declared.parts.Comparison.TheVariants.{Equal, NotEqual, Greater, GreaterOrEqual, Less, LessOrEqual}
 use Rattle.gw_blocks.specs.declared.parts.Test.{Test as TestOperands}
 use Rattle.gw_blocks.specs.declared.parts.Condition.{Condition}
-use Rattle.gw_blocks.specs.declared.parts.Condition.TheVariants.{SwitchSet, SwitchReset, FacilityInUse, FacilityNotInUse, StorageFull, StorageEmpty, StorageNotFull, StorageNotEmpty}
+use Rattle.gw_blocks.specs.declared.parts.Condition.TheVariants.{SwitchSet, SwitchReset, FacilityInUse, FacilityNotInUse, StorageFull, StorageEmpty}
+use Rattle.gw_blocks.specs.declared.parts.Condition.TheVariants.{StorageNotFull, StorageNotEmpty}
 use Rattle.gw_blocks.specs.declared.parts.Gate.{Gate as GateOperands}
 use Rattle.gw_blocks.specs.declared.parts.Loop.{Loop as LoopOperands}
 use Rattle.gw_blocks.specs.declared.parts.Call.{Call}
@@ -38,7 +41,8 @@ use Rattle.gw_blocks.specs.declared.parts.Save.{Save}
 use Rattle.gw_blocks.specs.declared.parts.Priority.{Priority as PriorityOperands}
 use Rattle.gw_blocks.specs.declared.parts.Plus.{Plus as PlusOperands}
 use Rattle.gw_blocks.specs.declared.parts.Block.TheVariants as blocks
-use Rattle.gw_fields.specs.Fields.{Read, Field, byte, number, signed_number, flag, nothing, as_type, both, field_that_fits, number_between, key_above, optional, Form, behind, by_tag, one_of}
+use Rattle.gw_fields.specs.Fields.{Read, Field, byte, number, signed_number, flag, nothing, as_type, both, field_that_fits, number_between, key_above}
+use Rattle.gw_fields.specs.Fields.{optional, Form, behind, by_tag, one_of}
 
 -- ---- numbers
 
@@ -102,7 +106,8 @@ entity_attribute_byte BlockCount = 11
 
 -- these attributes
 abbrev pub entity_attributes : List EntityAttribute
-entity_attributes = FacilityOwned ∷ StorageContent ∷ StorageRemaining ∷ QueueContent ∷ SavevalueValue ∷ SwitchSetting ∷ ChainMembers ∷ VariableValue ∷ BooleanValue ∷ FunctionValue ∷ BlockEntries ∷ BlockCount ∷ []
+entity_attributes = FacilityOwned ∷ StorageContent ∷ StorageRemaining ∷ QueueContent ∷ SavevalueValue ∷ SwitchSetting ∷ ChainMembers
+    ∷ VariableValue ∷ BooleanValue ∷ FunctionValue ∷ BlockEntries ∷ BlockCount ∷ []
 
 -- the number of the entity or the block fits
 abbrev pub NumberedFits : Numbered → Type 0
@@ -297,7 +302,8 @@ pub record CallFits (c : Call) : Type 0 where
 
 -- the target and the parameter's number
 abbrev pub call : Field Call
-call = field_that_fits CallFits (as_type (λ (target, parameter). record { target = target; parameter = parameter }) (λ c. (c.target, c.parameter)) (both block_number parameter_number))
+call = field_that_fits CallFits
+    (as_type (λ (target, parameter). record { target = target; parameter = parameter }) (λ c. (c.target, c.parameter)) (both block_number parameter_number))
 
 -- each operand fits
 pub record LoopFits (l : LoopOperands) : Type 0 where
@@ -306,7 +312,8 @@ pub record LoopFits (l : LoopOperands) : Type 0 where
 
 -- the parameter's number and the target
 abbrev pub countdown : Field LoopOperands
-countdown = field_that_fits LoopFits (as_type (λ (parameter, target). record { parameter = parameter; target = target }) (λ l. (l.parameter, l.target)) (both parameter_number block_number))
+countdown = field_that_fits LoopFits
+    (as_type (λ (parameter, target). record { parameter = parameter; target = target }) (λ l. (l.parameter, l.target)) (both parameter_number block_number))
 
 -- each operand fits
 pub record SplitFits (s : SplitOperands) : Type 0 where
@@ -315,7 +322,8 @@ pub record SplitFits (s : SplitOperands) : Type 0 where
 
 -- the number of copies and their target
 abbrev pub split : Field SplitOperands
-split = field_that_fits SplitFits (as_type (λ (copies, target). record { copies = copies; target = target }) (λ s. (s.copies, s.target)) (both (number w16) (optional block_number)))
+split = field_that_fits SplitFits
+    (as_type (λ (copies, target). record { copies = copies; target = target }) (λ s. (s.copies, s.target)) (both (number w16) (optional block_number)))
 
 -- how many transactions an assembly waits for in all
 abbrev pub set_size : Field ℕ
@@ -336,7 +344,8 @@ LinkFits l = entity_number.Fits l.chain
 
 -- the user chain's number, and the end at which it is joined
 abbrev pub link : Field LinkOperands
-link = field_that_fits LinkFits (as_type (λ (chain, order). record { chain = chain; order = order }) (λ l. (l.chain, l.order)) (both entity_number (one_of order_byte orders)))
+link = field_that_fits LinkFits
+    (as_type (λ (chain, order). record { chain = chain; order = order }) (λ l. (l.chain, l.order)) (both entity_number (one_of order_byte orders)))
 
 -- each operand fits
 pub record UnlinkFits (u : UnlinkOperands) : Type 0 where
@@ -367,7 +376,8 @@ LogicFits l = entity_number.Fits l.switch
 
 -- what is done, and the switch's number
 abbrev pub logic : Field LogicOperands
-logic = field_that_fits LogicFits (as_type (λ (action, switch). record { action = action; switch = switch }) (λ l. (l.action, l.switch)) (both (one_of action_byte actions) entity_number))
+logic = field_that_fits LogicFits
+    (as_type (λ (action, switch). record { action = action; switch = switch }) (λ l. (l.action, l.switch)) (both (one_of action_byte actions) entity_number))
 
 -- each operand fits
 pub record SaveFits (s : Save) : Type 0 where
@@ -387,7 +397,8 @@ PriorityFits p = OperandFits p.value
 
 -- the new priority, and whether the transaction goes behind its peers
 abbrev pub priority : Field PriorityOperands
-priority = field_that_fits PriorityFits (as_type (λ (value, behind_peers). record { value = value; behind = behind_peers }) (λ p. (p.value, p.behind)) (both operand flag))
+priority = field_that_fits PriorityFits
+    (as_type (λ (value, behind_peers). record { value = value; behind = behind_peers }) (λ p. (p.value, p.behind)) (both operand flag))
 
 -- each operand fits
 pub record PlusFits (a : PlusOperands) : Type 0 where
@@ -396,7 +407,8 @@ pub record PlusFits (a : PlusOperands) : Type 0 where
 
 -- what is evaluated, and the parameter that takes it
 abbrev pub plus : Field PlusOperands
-plus = field_that_fits PlusFits (as_type (λ (value, parameter). record { value = value; parameter = parameter }) (λ a. (a.value, a.parameter)) (both operand (optional parameter_number)))
+plus = field_that_fits PlusFits
+    (as_type (λ (value, parameter). record { value = value; parameter = parameter }) (λ a. (a.value, a.parameter)) (both operand (optional parameter_number)))
 
 -- the operands of a block fit, if it has operands
 abbrev pub BlockFits : Block → Type 0

@@ -1,5 +1,6 @@
 -- Few future events in a vector, the first to come last: where a newcomer stands, and how all come to buckets.
-use Rattle.std.proofs.Common.{◌≡◌, ◌∙◌, ℕ, ℤ, zero, suc, min, max, ◌+◌, ◌-◌, ◌^◌, ◌<◌, ◌≤◌, ◌≤ℤ◌, List, [], ◌∷◌, ◌++◌, length, take, drop, reverse, get_or, set, Bool, true, false, true≢false, if◌then◌else◌, refl, sym, ap, subst, arith, append_assoc}
+use Rattle.std.proofs.Common.{◌≡◌, ◌∙◌, ℕ, ℤ, zero, suc, min, max, ◌+◌, ◌-◌, ◌^◌, ◌<◌, ◌≤◌, ◌≤ℤ◌, List, [], ◌∷◌, ◌++◌, length, take, drop, reverse}
+use Rattle.std.proofs.Common.{get_or, set, Bool, true, false, true≢false, if◌then◌else◌, refl, sym, ap, subst, arith, append_assoc}
 use Rattle.std.specs.Prelude.{◌==◌, insert, int_le, All, AllPairs}
 use Rattle.std.specs.List.{AllByRecursion}
 use Rattle.std.specs.declared.collections.VecDeque.{VecDeque}
@@ -49,9 +50,11 @@ module _ {A : Type 0} where
   -- the one before the open place is that of the list
   pub before_vacant : (e : A) (xs ys : List A) (i : ℕ) (d : A) → 0 < i → i ≤ length xs → IsVacantAt e xs ys i → get_or ys (i - 1) d ≡ get_or xs (i - 1) d
   before_vacant e xs ys i d some within vacant =
-      sym (get_or-set_other ys i (i - 1) e d (omega (arith, some))) ∙ ap (λ zs. get_or zs (i - 1) d) vacant.1 ∙ get_or-insert_below xs i e d (i - 1) (omega (arith, some)) within
+      sym (get_or-set_other ys i (i - 1) e d (omega (arith, some))) ∙ ap (λ zs. get_or zs (i - 1) d) vacant.1
+      ∙ get_or-insert_below xs i e d (i - 1) (omega (arith, some)) within
 
-  pub vacant_lower : (e y : A) (xs ys zs : List A) (i : ℕ) → 0 < i → i ≤ length xs → y ≡ get_or xs (i - 1) y → IsVacantAt e xs ys i → zs ≡ set ys i y → IsVacantAt e xs zs (i - 1)
+  pub vacant_lower : (e y : A) (xs ys zs : List A) (i : ℕ) → 0 < i → i ≤ length xs → y ≡ get_or xs (i - 1) y → IsVacantAt e xs ys i → zs
+      ≡ set ys i y → IsVacantAt e xs zs (i - 1)
   vacant_lower e y xs ys zs i some within is vacant moved =
       let next : suc (i - 1) ≡ i = omega (arith, some) in (
         omega (arith, ap length moved, length-set ys i y, vacant.0),
@@ -90,14 +93,16 @@ module _ {A : Type 0} where
         one_past ys = rw passes refl
 
     -- and stands there before one that fails, or before none
-    pub stands_there : (i : ℕ) → placed_behind p e (reverse (take i xs)) ≡ e ∷ reverse (take i xs) → GoesPast i → reverse (insert xs i e) ≡ placed_behind p e (reverse xs)
+    pub stands_there : (i : ℕ) → placed_behind p e (reverse (take i xs)) ≡ e ∷ reverse (take i xs) → GoesPast i → reverse (insert xs i e)
+        ≡ placed_behind p e (reverse xs)
     stands_there i here past =
         reverse-append (take i xs) (e ∷ drop i xs)
         ∙ ap (λ ys. ys ++ reverse (take i xs)) (reverse-first e (drop i xs))
         ∙ append_assoc (reverse (drop i xs)) (e ∷ []) (reverse (take i xs))
         ∙ sym (past ∙ ap (λ ys. reverse (drop i xs) ++ ys) here)
 
-    pub before_one : (i : ℕ) (y : A) → 0 < i → i ≤ length xs → y ≡ get_or xs (i - 1) y → p y ≡ false → placed_behind p e (reverse (take i xs)) ≡ e ∷ reverse (take i xs)
+    pub before_one : (i : ℕ) (y : A) → 0 < i → i ≤ length xs → y ≡ get_or xs (i - 1) y → p y ≡ false
+        → placed_behind p e (reverse (take i xs)) ≡ e ∷ reverse (take i xs)
     before_one i y some within is fails =
         let next : (i - 1) + 1 ≡ i = omega arith in
         let taken : take i xs ≡ take (i - 1) xs ++ y ∷ [] =
@@ -117,7 +122,8 @@ comes_last e (m ∷ ms) rest pairs =
     (pairs_first NotLater m (ms ++ e ∷ rest) pairs (length ms) e (omega (arith, length-append ms (e ∷ rest)))) in
     (grind (arith, ints), comes_last e ms rest (pairs_rest NotLater m (ms ++ e ∷ rest) pairs))
 
-pub come_in_order : (e : Event) (ms ns rest all : List Event) → AllPairs NotLater all → ms ++ e ∷ rest ≡ all → ns ≡ in_time (λ (m : Event). m.time) e ms → ns ++ rest ≡ all
+pub come_in_order : (e : Event) (ms ns rest all : List Event) → AllPairs NotLater all → ms ++ e ∷ rest ≡ all → ns
+    ≡ in_time (λ (m : Event). m.time) e ms → ns ++ rest ≡ all
 come_in_order e ms ns rest all pairs is placed =
     let last = comes_last e ms rest (subst (AllPairs NotLater) (sym is) pairs) in
     let end : in_time (λ (m : Event). m.time) e ms ≡ ms ++ e ∷ [] =
@@ -132,11 +138,13 @@ left_in_order false es fs is pairs = subst (AllPairs NotLater) (sym is) pairs
 -- ROOM FOR EVENTS
 
 -- few go to buckets that have none
-pub room_taken : (few : ℕ) (b v : Bucketed) → 0 < few → length b.items ≡ 0 → length v.items ≡ few → b.links ≤ v.links + few → b.spare ≤ v.spare + 1 → b.chunks ≤ v.chunks + 1 → room_behind few b ≤ room_behind 0 v
+pub room_taken : (few : ℕ) (b v : Bucketed) → 0 < few → length b.items ≡ 0 → length v.items ≡ few → b.links ≤ v.links + few → b.spare
+    ≤ v.spare + 1 → b.chunks ≤ v.chunks + 1 → room_behind few b ≤ room_behind 0 v
 room_taken few b v some none all links spare chunks = omega (arith, some, none, all, links, spare, chunks)
 
 -- and one more comes to buckets
-pub room_scheduled : (b v : Bucketed) → length v.items ≡ length b.items + 1 → b.links ≤ v.links + 1 → b.spare ≤ v.spare + 1 → b.chunks ≤ v.chunks + 1 → room_behind 0 b ≤ room_behind 0 v + 1
+pub room_scheduled : (b v : Bucketed) → length v.items ≡ length b.items + 1 → b.links ≤ v.links + 1 → b.spare ≤ v.spare + 1 → b.chunks
+    ≤ v.chunks + 1 → room_behind 0 b ≤ room_behind 0 v + 1
 room_scheduled b v more links spare chunks = omega (arith, more, links, spare, chunks)
 
 pub through : (a b mid d : ℕ) → a ≤ b → mid ≡ b → mid ≤ d + 1 → a ≤ d + 1
@@ -182,26 +190,36 @@ space_kept zero capacity larger few fewer less grows = omega (arith, less, grows
 space_kept (suc many) capacity larger few fewer less grows = omega (arith, no_space many capacity few)
 
 -- one more comes to the few
-pub room_joined : (b : Bucketed) (capacity larger few more : ℕ) → more ≡ few + 1 → capacity ≤ larger → room_for_events capacity few b ≤ room_for_events larger more b + 1
+pub room_joined : (b : Bucketed) (capacity larger few more : ℕ) → more ≡ few + 1 → capacity ≤ larger → room_for_events capacity few b
+    ≤ room_for_events larger more b + 1
 room_joined b capacity larger few more one grows =
     either_less _ _ _ _ (space_joined (length b.items) capacity larger few more one grows)
-    (beside_less (few + length b.items) (more + length b.items) (b.links - few) (b.links - more) (b.spare - min few 1) (b.spare - min more 1) (b.chunks - min few 1) (b.chunks - min more 1) (omega (arith, one)) (omega (arith, one)) (omega (arith, one)) (omega (arith, one)))
+    (beside_less (few + length b.items) (more + length b.items) (b.links - few) (b.links - more) (b.spare - min few 1)
+    (b.spare - min more 1) (b.chunks - min few 1) (b.chunks - min more 1) (omega (arith, one)) (omega (arith, one))
+    (omega (arith, one)) (omega (arith, one)))
 
 -- one of the few leaves
 pub room_left : (b : Bucketed) (capacity same few fewer : ℕ) → fewer ≤ few → same ≡ capacity → room_for_events capacity few b ≤ room_for_events same fewer b
 room_left b capacity same few fewer less is =
     either_kept _ _ _ _ (space_kept (length b.items) capacity same few fewer less (omega (arith, is)))
-    (beside_kept (few + length b.items) (fewer + length b.items) (b.links - few) (b.links - fewer) (b.spare - min few 1) (b.spare - min fewer 1) (b.chunks - min few 1) (b.chunks - min fewer 1) (omega (arith, less)) (omega (arith, less)) (omega (arith, less)) (omega (arith, less)))
+    (beside_kept (few + length b.items) (fewer + length b.items) (b.links - few) (b.links - fewer) (b.spare - min few 1)
+    (b.spare - min fewer 1) (b.chunks - min few 1) (b.chunks - min fewer 1) (omega (arith, less)) (omega (arith, less))
+    (omega (arith, less)) (omega (arith, less)))
 
 -- room that was made
-pub room_grown : (b v : Bucketed) (capacity larger few same : ℕ) → same ≡ few → capacity ≤ larger → v.items ≡ b.items → b.links ≤ v.links → b.spare ≤ v.spare → b.chunks ≤ v.chunks → room_for_events capacity few b ≤ room_for_events larger same v
+pub room_grown : (b v : Bucketed) (capacity larger few same : ℕ) → same ≡ few → capacity ≤ larger → v.items ≡ b.items → b.links ≤ v.links
+    → b.spare ≤ v.spare → b.chunks ≤ v.chunks → room_for_events capacity few b ≤ room_for_events larger same v
 room_grown b v capacity larger few same is grows items links spare chunks =
     let many : length v.items ≡ length b.items = ap length items in
-    either_kept _ _ _ _ (subst (λ n. space_beside (length b.items) capacity few ≤ space_beside n larger same) (sym many) (space_kept (length b.items) capacity larger few same (omega (arith, is)) grows))
-    (beside_kept (few + length b.items) (same + length v.items) (b.links - few) (v.links - same) (b.spare - min few 1) (v.spare - min same 1) (b.chunks - min few 1) (v.chunks - min same 1) (omega (arith, is, many)) (omega (arith, is, links)) (omega (arith, is, spare)) (omega (arith, is, chunks)))
+    either_kept _ _ _ _ (subst (λ n. space_beside (length b.items) capacity few ≤ space_beside n larger same) (sym many)
+    (space_kept (length b.items) capacity larger few same (omega (arith, is)) grows))
+    (beside_kept (few + length b.items) (same + length v.items) (b.links - few) (v.links - same) (b.spare - min few 1)
+    (v.spare - min same 1) (b.chunks - min few 1) (v.chunks - min same 1) (omega (arith, is, many)) (omega (arith, is, links))
+    (omega (arith, is, spare)) (omega (arith, is, chunks)))
 
 -- where there is room in buckets alone, all are few enough for one more
-pub within_memory : (b : Bucketed) (capacity few : ℕ) → 0 < room_for_events capacity few b → space_beside (length b.items) capacity few ≤ 0 → few + length b.items < 2 ^ 62
+pub within_memory : (b : Bucketed) (capacity few : ℕ) → 0 < room_for_events capacity few b → space_beside (length b.items) capacity few ≤ 0
+    → few + length b.items < 2 ^ 62
 within_memory b capacity few some none = omega (arith, some, none)
 
 -- BUCKETS THAT HAVE NONE

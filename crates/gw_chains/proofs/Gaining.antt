@@ -5,9 +5,11 @@ use Rattle.std.specs.Prelude.{AllPairs}
 use Rattle.std.specs.List.{AllByRecursion}
 use Rattle.gw_members.specs.Chain.{placed_behind}
 use Rattle.gw_chains.specs.Chunks.{begins_in}
-use Rattle.gw_chains.specs.Buckets.{once, times, Links, run, links_of, member_at, members_at, members_of, total, bucket_of_one, one_if_there, Before, IsBucket, AreBuckets, GainMember}
+use Rattle.gw_chains.specs.Buckets.{once, times, Links, run, links_of, member_at, members_at, members_of, total, bucket_of_one, one_if_there, Before}
+use Rattle.gw_chains.specs.Buckets.{IsBucket, AreBuckets, GainMember}
 use Rattle.gw_chains.specs.declared.bucket.Bucket.{Bucket}
-use Rattle.gw_chains.proofs.Linking.{once-same, once-other, times-append, Alike, run-same, links-same, members-same, members-append, buckets-same, bucket-same, was_other, run_alone, alone_is_bucket, placed_past, placed_first, AreLed}
+use Rattle.gw_chains.proofs.Linking.{once-same, once-other, times-append, Alike, run-same, links-same, members-same, members-append, buckets-same}
+use Rattle.gw_chains.proofs.Linking.{bucket-same, was_other, run_alone, alone_is_bucket, placed_past, placed_first, AreLed}
 
 module _ {X : Type 0} (rank : X → ℤ) (S T : Links X) (e : X) (j x : ℕ) (vacant : S j ≡ None) (there : T j ≡ Some (record { member = e; next = x })) where
   -- links that were there are the same where only the newcomer's is new
@@ -23,10 +25,12 @@ module _ {X : Type 0} (rank : X → ℤ) (S T : Links X) (e : X) (j x : ℕ) (va
       pub many : total ws ≡ total bs + 1
 
     -- it stands before all buckets
-    pub before_all : (bs : List Bucket) → Alike S T (links_of S bs) → AllByRecursion (IsBucket rank S) bs → begins_in p (members_of S bs) ≡ false → Gain bs (bucket_of_one rank e j ∷ bs)
+    pub before_all : (bs : List Bucket) → Alike S T (links_of S bs) → AllByRecursion (IsBucket rank S) bs → begins_in p (members_of S bs)
+        ≡ false → Gain bs (bucket_of_one rank e j ∷ bs)
     before_all bs alike each fails =
         let same = links-same S T bs alike in
-        let whole : links_of T (bucket_of_one rank e j ∷ bs) ≡ j ∷ links_of S bs = ap (λ zs. zs ++ links_of T bs) (run_alone S T e j x vacant there) ∙ ap (λ zs. j ∷ zs) same in
+        let whole : links_of T (bucket_of_one rank e j ∷ bs) ≡ j ∷ links_of S bs =
+        ap (λ zs. zs ++ links_of T bs) (run_alone S T e j x vacant there) ∙ ap (λ zs. j ∷ zs) same in
         record {
           members =
               ap (members_at T) whole
@@ -39,7 +43,8 @@ module _ {X : Type 0} (rank : X → ℤ) (S T : Links X) (e : X) (j x : ℕ) (va
         }
 
     -- or it goes past a bucket
-    pub past : (b : Bucket) (bs ws : List Bucket) → Alike S T (run S b.count b.first) → AllByRecursion (λ y. p y ≡ true) (members_at S (run S b.count b.first)) → IsBucket rank S b → Gain bs ws → Gain (b ∷ bs) (b ∷ ws)
+    pub past : (b : Bucket) (bs ws : List Bucket) → Alike S T (run S b.count b.first)
+        → AllByRecursion (λ y. p y ≡ true) (members_at S (run S b.count b.first)) → IsBucket rank S b → Gain bs ws → Gain (b ∷ bs) (b ∷ ws)
     past b bs ws alike passes is gain =
         let here = run S b.count b.first in
         let back = links_of S bs in
@@ -53,13 +58,20 @@ module _ {X : Type 0} (rank : X → ℤ) (S T : Links X) (e : X) (j x : ℕ) (va
               ∙ ap (λ zs. old ++ zs) gain.members
               ∙ sym (placed_past p e old (members_of S bs) passes)
               ∙ ap (placed_behind p e) (sym (members-append S here back));
-          links = λ i. omega (arith, ap (λ zs. times i (zs ++ links_of T ws)) same, times-append i here (links_of T ws), times-append i here back, gain.links i);
+          links = λ i. omega (
+            arith,
+            ap (λ zs. times i (zs ++ links_of T ws)) same,
+            times-append i here (links_of T ws),
+            times-append i here back,
+            gain.links i,
+          );
           each = (bucket-same rank S T b alike is, gain.each);
           many = omega (arith, gain.many);
         }
 
     -- all that is known of buckets then
-    pub gain_member : (bs ws : List Bucket) → AreBuckets rank S bs → AllPairs Before ws → ((i : ℕ) → i ≢ j → one_if_there (T i) ≡ one_if_there (S i)) → Gain bs ws → GainMember rank p e S bs T ws
+    pub gain_member : (bs ws : List Bucket) → AreBuckets rank S bs → AllPairs Before ws
+        → ((i : ℕ) → i ≢ j → one_if_there (T i) ≡ one_if_there (S i)) → Gain bs ws → GainMember rank p e S bs T ws
     gain_member bs ws are order as_before gain = (
       gain.members,
       record {

@@ -1,16 +1,19 @@
 -- Members in buckets: a newcomer joins them ahead of all of its rank.
-use Rattle.std.proofs.Common.{◌≡◌, ◌≢◌, ◌∙◌, ℕ, ℤ, zero, suc, ◌+◌, ◌-◌, ◌^◌, ◌<◌, ◌≤◌, min, List, [], ◌∷◌, ◌++◌, length, Some, None, Bool, true, false, if◌then◌else◌, refl, sym, ap, subst, arith, get_or, set}
+use Rattle.std.proofs.Common.{◌≡◌, ◌≢◌, ◌∙◌, ℕ, ℤ, zero, suc, ◌+◌, ◌-◌, ◌^◌, ◌<◌, ◌≤◌, min, List, [], ◌∷◌, ◌++◌, length, Some, None, Bool, true}
+use Rattle.std.proofs.Common.{false, if◌then◌else◌, refl, sym, ap, subst, arith, get_or, set}
 use Rattle.std.proofs.lemmas.Int.{ints}
 use Rattle.std.specs.Prelude.{All, AllPairs, IfSome, insert, int_lt}
 use Rattle.std.specs.List.{AllByRecursion}
 use Rattle.std.specs.List.Sorted.{IsPartitionedBy}
 use Rattle.std.proofs.lemmas.List.Elements.{All-head, All-tail, All-cons, All-nil}
 use Rattle.gw_chains.specs.Chunks.{begins_in}
-use Rattle.gw_chains.specs.Buckets.{times, last_or, Links, run, links_of, member_at, members_at, members_of, total, lower, bucket_of_one, one_if_there, below, IsHead, head_host, headed_by, with_head, Before, IsBucket, AreBuckets, GainMember}
+use Rattle.gw_chains.specs.Buckets.{times, last_or, Links, run, links_of, member_at, members_at, members_of, total, lower, bucket_of_one}
+use Rattle.gw_chains.specs.Buckets.{one_if_there, below, IsHead, head_host, headed_by, with_head, Before, IsBucket, AreBuckets, GainMember}
 use Rattle.gw_chains.specs.declared.bucket.Bucket.{Bucket}
 use Rattle.gw_chains.proofs.Places.{parts_in_order, pairs_cons, pairs_first, pairs_rest}
 use Rattle.gw_chains.proofs.Gaining.{Gain as GainAhead, alike_led, before_all, past, gain_member}
-use Rattle.gw_chains.proofs.Linking.{times-append, Alike, run_some, run-same, links-same, members-same, buckets-same, placed_first, AreLed, led_back, led_front, begins_at}
+use Rattle.gw_chains.proofs.Linking.{times-append, Alike, run_some, run-same, links-same, members-same, buckets-same, placed_first, AreLed, led_back}
+use Rattle.gw_chains.proofs.Linking.{led_front, begins_at}
 use Rattle.gw_chains.proofs.Joining.{led_of}
 use Rattle.gw_chains.proofs.Leaving.{last_or_run}
 
@@ -26,16 +29,19 @@ module _ (n : Bucket) where
   host-past (b ∷ bs) zero past point = absurd (omega arith)
   host-past (b ∷ bs) (suc i) past point = rw (point.0 0 b (omega arith) (omega arith)) (host-past bs i (omega arith) (head_rest b bs i point))
 
-  pub host-there : (bs : List Bucket) (i : ℕ) (d : Bucket) → i < length bs → IsHead n bs i → head_host n bs ≡ (if below n (get_or bs i d) then None else Some (get_or bs i d))
+  pub host-there : (bs : List Bucket) (i : ℕ) (d : Bucket) → i < length bs → IsHead n bs i → head_host n bs
+      ≡ (if below n (get_or bs i d) then None else Some (get_or bs i d))
   host-there [] i d within point = absurd (omega arith)
   host-there (b ∷ bs) zero d within point = rw (point.1 0 b (omega arith) (omega arith)) refl
   host-there (b ∷ bs) (suc i) d within point = rw (point.0 0 b (omega arith) (omega arith)) (host-there bs i d (omega arith) (head_rest b bs i point))
 
-  pub host-at : (bs : List Bucket) (i : ℕ) (h : Bucket) → i < length bs → IsHead n bs i → h ≡ get_or bs i h → (t : Bool) → t ≡ below n h → head_host n bs ≡ (if t then None else Some h)
+  pub host-at : (bs : List Bucket) (i : ℕ) (h : Bucket) → i < length bs → IsHead n bs i → h ≡ get_or bs i h → (t : Bool) → t ≡ below n h
+      → head_host n bs ≡ (if t then None else Some h)
   host-at bs i h within point is t test = host-there bs i h within point ∙ rw (← is) (ap (λ u. if u then None else Some h) (sym test))
 
   -- it takes the newcomer in
-  pub put-headed : (bs : List Bucket) (i : ℕ) (h : Bucket) → IsHead n bs i → Some h ≡ head_host n bs → (i < length bs) × (set bs i (headed_by n h) ≡ with_head n bs)
+  pub put-headed : (bs : List Bucket) (i : ℕ) (h : Bucket) → IsHead n bs i → Some h ≡ head_host n bs → (i < length bs)
+      × (set bs i (headed_by n h) ≡ with_head n bs)
   put-headed [] i h point is = absurd cc
   put-headed (b ∷ bs) zero h point is =
       let fails = point.1 0 b (omega arith) (omega arith) in
@@ -81,11 +87,13 @@ parted_below n bs order = parts_in_order Before (λ b. below b n) bs falls order
 -- THE NEWCOMER
 
 -- all members of a bucket of a lower rank
-all_lower : {X : Type 0} (rank : X → ℤ) (e : X) (t : ℤ) (ys : List X) → int_lt t (rank e) ≡ true → AllByRecursion (λ (y : X). rank y ≡ t) ys → AllByRecursion (λ y. lower rank e y ≡ true) ys
+all_lower : {X : Type 0} (rank : X → ℤ) (e : X) (t : ℤ) (ys : List X) → int_lt t (rank e) ≡ true
+    → AllByRecursion (λ (y : X). rank y ≡ t) ys → AllByRecursion (λ y. lower rank e y ≡ true) ys
 all_lower rank e t [] passes all = tt
 all_lower rank e t (y ∷ ys) passes all = (ap (λ u. int_lt u (rank e)) all.0 ∙ passes, all_lower rank e t ys passes all.1)
 
-module _ {X : Type 0} (rank : X → ℤ) (S T : Links X) (e : X) (j x : ℕ) (vacant : S j ≡ None) (there : T j ≡ Some (record { member = e; next = x })) (others : (k : ℕ) → k ≢ j → T k ≡ S k) where
+module _ {X : Type 0} (rank : X → ℤ) (S T : Links X) (e : X) (j x : ℕ) (vacant : S j ≡ None)
+    (there : T j ≡ Some (record { member = e; next = x })) (others : (k : ℕ) → k ≢ j → T k ≡ S k) where
   alike : (ks : List ℕ) → AreLed S ks → Alike S T ks
   alike ks led = alike_led rank S T e j x vacant there ks led others
 
@@ -93,11 +101,13 @@ module _ {X : Type 0} (rank : X → ℤ) (S T : Links X) (e : X) (j x : ℕ) (va
   Gain = GainAhead rank S T e j x vacant there (lower rank e)
 
   -- it stands before all buckets
-  stands_first : (bs : List Bucket) → AreLed S (links_of S bs) → AllByRecursion (IsBucket rank S) bs → begins_in (lower rank e) (members_of S bs) ≡ false → Gain bs (bucket_of_one rank e j ∷ bs)
+  stands_first : (bs : List Bucket) → AreLed S (links_of S bs) → AllByRecursion (IsBucket rank S) bs
+      → begins_in (lower rank e) (members_of S bs) ≡ false → Gain bs (bucket_of_one rank e j ∷ bs)
   stands_first bs led each fails = before_all rank S T e j x vacant there (lower rank e) bs (alike (links_of S bs) led) each fails
 
   -- a bucket takes it in before its own
-  taken_in : (b : Bucket) (bs : List Bucket) → AreLed S (links_of S (b ∷ bs)) → AllByRecursion (IsBucket rank S) (b ∷ bs) → total (b ∷ bs) < 2 ^ 62 → int_lt b.rank (rank e) ≡ false → int_lt (rank e) b.rank ≡ false → x ≡ b.first → Gain (b ∷ bs) (headed_by (bucket_of_one rank e j) b ∷ bs)
+  taken_in : (b : Bucket) (bs : List Bucket) → AreLed S (links_of S (b ∷ bs)) → AllByRecursion (IsBucket rank S) (b ∷ bs) → total (b ∷ bs)
+      < 2 ^ 62 → int_lt b.rank (rank e) ≡ false → int_lt (rank e) b.rank ≡ false → x ≡ b.first → Gain (b ∷ bs) (headed_by (bucket_of_one rank e j) b ∷ bs)
   taken_in b bs led each few from_e upto_e first =
       let here = run S b.count b.first in
       let back = links_of S bs in
@@ -112,7 +122,8 @@ module _ {X : Type 0} (rank : X → ℤ) (S T : Links X) (e : X) (j x : ℕ) (va
       ∙ run_some T b.count j (record { member = e; next = x }) there
       ∙ ap (λ k. j ∷ run T b.count k) first
       ∙ ap (λ zs. j ∷ zs) same in
-      let whole : links_of T (headed_by (bucket_of_one rank e j) b ∷ bs) ≡ j ∷ (here ++ back) = ap (λ zs. zs ++ links_of T bs) run_here ∙ ap (λ zs. j ∷ (here ++ zs)) (links-same S T bs alike_back) in
+      let whole : links_of T (headed_by (bucket_of_one rank e j) b ∷ bs) ≡ j ∷ (here ++ back) = ap (λ zs. zs ++ links_of T bs) run_here
+      ∙ ap (λ zs. j ∷ (here ++ zs)) (links-same S T bs alike_back) in
       let shown : (ks : List ℕ) → Alike S T ks → members_at T (j ∷ ks) ≡ e ∷ members_at S ks =
       λ ks same. ap (λ o. member_at o ++ members_at T ks) there ∙ ap (λ zs. e ∷ zs) (members-same S T ks (λ k some. ap member_at (same k some))) in
       let fails : begins_in (lower rank e) (members_of S (b ∷ bs)) ≡ false =
@@ -124,7 +135,8 @@ module _ {X : Type 0} (rank : X → ℤ) (S T : Links X) (e : X) (j x : ℕ) (va
           record {
             some = omega (arith, more);
             last = ap (last_or j) run_here ∙ last_or_run j S b.count b.first each.0.some ∙ each.0.last;
-            alike = subst (AllByRecursion (λ (y : X). rank y ≡ b.rank)) (sym (ap (members_at T) run_here ∙ shown here alike_here)) (grind (arith, ints), each.0.alike);
+            alike = subst (AllByRecursion (λ (y : X). rank y ≡ b.rank)) (sym (ap (members_at T) run_here ∙ shown here alike_here))
+                (grind (arith, ints), each.0.alike);
           },
           buckets-same rank S T bs alike_back each.1,
         );
@@ -132,22 +144,30 @@ module _ {X : Type 0} (rank : X → ℤ) (S T : Links X) (e : X) (j x : ℕ) (va
       }
 
   -- it goes past a bucket
-  goes_past : (b : Bucket) (bs ws : List Bucket) → AreLed S (links_of S (b ∷ bs)) → AllByRecursion (IsBucket rank S) (b ∷ bs) → int_lt b.rank (rank e) ≡ true → Gain bs ws → Gain (b ∷ bs) (b ∷ ws)
+  goes_past : (b : Bucket) (bs ws : List Bucket) → AreLed S (links_of S (b ∷ bs)) → AllByRecursion (IsBucket rank S) (b ∷ bs)
+      → int_lt b.rank (rank e) ≡ true → Gain bs ws → Gain (b ∷ bs) (b ∷ ws)
   goes_past b bs ws led each under gain =
       let here = run S b.count b.first in
-      past rank S T e j x vacant there (lower rank e) b bs ws (alike here (led_front S here (links_of S bs) led)) (all_lower rank e b.rank (members_at S here) under each.0.alike) each.0 gain
+      past rank S T e j x vacant there (lower rank e) b bs ws (alike here (led_front S here (links_of S bs) led))
+      (all_lower rank e b.rank (members_at S here) under each.0.alike) each.0 gain
 
-  headed : (bs : List Bucket) → AreLed S (links_of S bs) → AllByRecursion (IsBucket rank S) bs → total bs < 2 ^ 62 → IfSome (head_host (bucket_of_one rank e j) bs) (λ h. x ≡ h.first) → Gain bs (with_head (bucket_of_one rank e j) bs)
+  headed : (bs : List Bucket) → AreLed S (links_of S bs) → AllByRecursion (IsBucket rank S) bs → total bs < 2 ^ 62
+      → IfSome (head_host (bucket_of_one rank e j) bs) (λ h. x ≡ h.first) → Gain bs (with_head (bucket_of_one rank e j) bs)
   headed [] led each few host = stands_first [] led each refl
   headed (b ∷ bs) led each few host =
       by_test (int_lt b.rank (rank e)) (int_lt (rank e) b.rank) refl refl host
       (λ here. headed bs (led_back S (run S b.count b.first) (links_of S bs) led) each.1 (omega (arith, few)) here)
     where
-      by_test : (p q : Bool) → int_lt b.rank (rank e) ≡ p → int_lt (rank e) b.rank ≡ q → IfSome (if p then head_host (bucket_of_one rank e j) bs else (if q then None else Some b)) (λ h. x ≡ h.first)
+      by_test : (p q : Bool) → int_lt b.rank (rank e) ≡ p → int_lt (rank e) b.rank ≡ q
+          → IfSome (if p then head_host (bucket_of_one rank e j) bs else (if q then None else Some b)) (λ h. x ≡ h.first)
           → (IfSome (head_host (bucket_of_one rank e j) bs) (λ h. x ≡ h.first) → Gain bs (with_head (bucket_of_one rank e j) bs))
-          → Gain (b ∷ bs) (if p then b ∷ with_head (bucket_of_one rank e j) bs else (if q then bucket_of_one rank e j ∷ b ∷ bs else headed_by (bucket_of_one rank e j) b ∷ bs))
+          → Gain (b ∷ bs) (if p then b ∷ with_head (bucket_of_one rank e j) bs else
+          (if q then bucket_of_one rank e j ∷ b ∷ bs else headed_by (bucket_of_one rank e j) b ∷ bs))
       by_test true q under over found rest = goes_past b bs (with_head (bucket_of_one rank e j) bs) led each under (rest found)
-      by_test false true under over found rest = stands_first (b ∷ bs) led each (begins_at rank S (λ t. int_lt t (rank e)) b.count b.first b.rank (links_of S bs) each.0.some (led_front S (run S b.count b.first) (links_of S bs) led).leads each.0.alike ∙ under)
+      by_test false true under over found rest =
+          stands_first (b ∷ bs) led each
+          (begins_at rank S (λ t. int_lt t (rank e)) b.count b.first b.rank (links_of S bs) each.0.some
+          (led_front S (run S b.count b.first) (links_of S bs) led).leads each.0.alike ∙ under)
       by_test false false under over found rest = taken_in b bs led each few under over found
 
 all_headed : (a n : Bucket) (bs : List Bucket) → Before a n → All (Before a) bs → All (Before a) (with_head n bs)
@@ -175,15 +195,20 @@ order_headed n (b ∷ bs) order = by_test (below b n) (below n b) refl refl (ord
     over : below n b ≡ true → Before n b
     over one = grind (arith, ints)
 
-    by_test : (p q : Bool) → below b n ≡ p → below n b ≡ q → AllPairs Before (with_head n bs) → AllPairs Before (if p then b ∷ with_head n bs else (if q then n ∷ b ∷ bs else headed_by n b ∷ bs))
+    by_test : (p q : Bool) → below b n ≡ p → below n b ≡ q → AllPairs Before (with_head n bs)
+        → AllPairs Before (if p then b ∷ with_head n bs else (if q then n ∷ b ∷ bs else headed_by n b ∷ bs))
     by_test true q one other later = pairs_cons Before b (with_head n bs) (all_headed b n bs (under one) (pairs_first Before b bs order)) later
     by_test false true one other later =
-        pairs_cons Before n (b ∷ bs) (All-cons (Before n) b bs (over other) (λ k d low. above n b (get_or bs k d) (over other) (pairs_first Before b bs order k d low))) order
+        pairs_cons Before n (b ∷ bs)
+        (All-cons (Before n) b bs (over other) (λ k d low. above n b (get_or bs k d) (over other) (pairs_first Before b bs order k d low))) order
     by_test false false one other later = pairs_cons Before (headed_by n b) bs (pairs_first Before b bs order) (pairs_rest Before b bs order)
 
 -- what becomes of buckets that a member joins ahead of its rank
-pub gains_ahead : {X : Type 0} (rank : X → ℤ) (S T : Links X) (e : X) (j x : ℕ) → S j ≡ None → T j ≡ Some (record { member = e; next = x }) → ((k : ℕ) → k ≢ j → T k ≡ S k)
-    → (bs : List Bucket) → AreBuckets rank S bs → total bs < 2 ^ 62 → IfSome (head_host (bucket_of_one rank e j) bs) (λ h. x ≡ h.first) → GainMember rank (lower rank e) e S bs T (with_head (bucket_of_one rank e j) bs)
+pub gains_ahead : {X : Type 0} (rank : X → ℤ) (S T : Links X) (e : X) (j x : ℕ) → S j ≡ None → T j ≡ Some (record { member = e; next = x })
+    → ((k : ℕ) → k ≢ j → T k ≡ S k)
+    → (bs : List Bucket) → AreBuckets rank S bs → total bs < 2 ^ 62 → IfSome (head_host (bucket_of_one rank e j) bs) (λ h. x ≡ h.first)
+    → GainMember rank (lower rank e) e S bs T (with_head (bucket_of_one rank e j) bs)
 gains_ahead rank S T e j x vacant there others bs are few host =
-    gain_member rank S T e j x vacant there (lower rank e) bs (with_head (bucket_of_one rank e j) bs) are (order_headed (bucket_of_one rank e j) bs are.order) (λ i other. ap one_if_there (others i other))
+    gain_member rank S T e j x vacant there (lower rank e) bs (with_head (bucket_of_one rank e j) bs) are
+    (order_headed (bucket_of_one rank e j) bs are.order) (λ i other. ap one_if_there (others i other))
     (headed rank S T e j x vacant there others bs (led_of rank S bs are) are.each few host)

@@ -1,5 +1,6 @@
 -- The current events chain, whose first may stand apart: it stays the first where another joins behind it.
-use Rattle.std.proofs.Common.{◌≡◌, ℕ, ℤ, ◌+◌, ◌^◌, ◌<◌, ◌≤◌, List, [], ◌∷◌, Option, Some, None, Bool, true, false, if◌then◌else◌, sym, subst, arith, neg_ℤ, length}
+use Rattle.std.proofs.Common.{◌≡◌, ℕ, ℤ, ◌+◌, ◌^◌, ◌<◌, ◌≤◌, List, [], ◌∷◌, Option, Some, None, Bool, true, false, if◌then◌else◌, sym, subst, arith}
+use Rattle.std.proofs.Common.{neg_ℤ, length}
 use Rattle.std.proofs.lemmas.Int.{ints}
 use Rattle.std.specs.Prelude.{int_le, int_lt, IfSome, option_to_list}
 use Rattle.gw_members.specs.Chain.{placed_behind}
@@ -32,17 +33,21 @@ pub passes_ahead : (head : Option Member) (priority : ℤ) → IsHeadThatFails (
 passes_ahead None priority is = tt
 passes_ahead (Some h) priority is = let passes : int_lt priority h.priority ≡ true = is.1 in grind (arith, ints)
 
-stands_first : (p : Member → Bool) (x : Member) (head : Option Member) (ms ws : List Member) → ws ≡ placed_behind p x ms → IsNoLower head x.priority → StandsFirst head ms → StandsFirst head ws
+stands_first : (p : Member → Bool) (x : Member) (head : Option Member) (ms ws : List Member) → ws ≡ placed_behind p x ms
+    → IsNoLower head x.priority → StandsFirst head ms → StandsFirst head ws
 stands_first p x None ms ws is lower before = tt
 stands_first p x (Some h) ms ws is lower before =
-    subst (λ zs. begins_in (λ (m : Member). int_lt h.priority m.priority) zs ≡ false) (sym is) (begins_placed (λ m. int_lt h.priority m.priority) p x ms before lower)
+    subst (λ zs. begins_in (λ (m : Member). int_lt h.priority m.priority) zs ≡ false) (sym is)
+    (begins_placed (λ m. int_lt h.priority m.priority) p x ms before lower)
 
 -- all that is known of the chain
 abbrev pub IsHeaded : Option Member → Links Member → List Bucket → ℕ → Type 0
 IsHeaded head links bs n =
     AreCounted (λ (m : Member). neg_ℤ m.priority) links bs n × (n + length (option_to_list head) ≤ 2 ^ 62) × StandsFirst head (members_of links bs)
 
-pub headed_more : (p : Member → Bool) (x : Member) (head : Option Member) (S T : Links Member) (bs ws : List Bucket) (n room : ℕ) → IsHeaded head S bs n → GainMember (λ (m : Member). neg_ℤ m.priority) p x S bs T ws → IsNoLower head x.priority → 0 < room_of (n + length (option_to_list head)) room → IsHeaded head T ws (n + 1)
+pub headed_more : (p : Member → Bool) (x : Member) (head : Option Member) (S T : Links Member) (bs ws : List Bucket) (n room : ℕ)
+    → IsHeaded head S bs n → GainMember (λ (m : Member). neg_ℤ m.priority) p x S bs T ws → IsNoLower head x.priority → 0
+    < room_of (n + length (option_to_list head)) room → IsHeaded head T ws (n + 1)
 headed_more p x head S T bs ws n room is gain lower some = (
   counted_more (λ (m : Member). neg_ℤ m.priority) p x S T bs ws n is.0 gain (omega (arith, some)),
   omega (arith, some),

@@ -1,5 +1,6 @@
 -- A newcomer whose like stands at a known position in chunks.
-use Rattle.std.proofs.Common.{◌≡◌, ◌∙◌, ℕ, zero, suc, ◌+◌, ◌<◌, List, [], ◌∷◌, ◌++◌, length, take, drop, Some, Bool, true, refl, sym, ap, subst, arith, get_or, set, append_assoc}
+use Rattle.std.proofs.Common.{◌≡◌, ◌∙◌, ℕ, zero, suc, ◌+◌, ◌<◌, List, [], ◌∷◌, ◌++◌, length, take, drop, Some, Bool, true, refl, sym, ap, subst}
+use Rattle.std.proofs.Common.{arith, get_or, set, append_assoc}
 use Rattle.std.specs.List.Sorted.{IsPartitionedBy}
 use Rattle.std.specs.declared.collections.VecDeque.{VecDeque}
 use Rattle.gw_chains.specs.Newcomers.{host, with_newcomer, IsHostLast}
@@ -25,7 +26,8 @@ module _ {A : Type 0} where
 
 module _ {X Z : Type 0} (goes : X → X → Bool) (x y : X) (passes : goes y x ≡ true) (takes : goes x y ≡ true) where
   -- the like of a newcomer stands at this position
-  module _ (cs : List (VecDeque X Z)) (i p : ℕ) (there : StandsAt y i p cs) (parts : IsPartitionedBy (λ z. goes z x) (all_of cs)) (last : IsHostLast goes x (all_of cs)) (d : VecDeque X Z) where
+  module _ (cs : List (VecDeque X Z)) (i p : ℕ) (there : StandsAt y i p cs) (parts : IsPartitionedBy (λ z. goes z x) (all_of cs))
+      (last : IsHostLast goes x (all_of cs)) (d : VecDeque X Z) where
     abbrev front : List X
     front = all_of (take i cs) ++ take p (get_or cs i d).items
 
@@ -41,13 +43,15 @@ module _ {X Z : Type 0} (goes : X → X → Bool) (x y : X) (passes : goes y x �
     host_here : host goes x (all_of cs) ≡ Some y
     host_here =
         ap (host goes x) whole
-        ∙ host_past goes x front (y ∷ back) (all_before goes x front y back (subst (IsPartitionedBy (λ z. goes z x)) whole parts) (subst (IsHostLast goes x) whole last) passes)
+        ∙ host_past goes x front (y ∷ back)
+        (all_before goes x front y back (subst (IsPartitionedBy (λ z. goes z x)) whole parts) (subst (IsHostLast goes x) whole last) passes)
         ∙ rw (passes, takes) refl
 
     taken_here : (unite : X → X → X) → with_newcomer goes unite x (all_of cs) ≡ front ++ unite y x ∷ back
     taken_here unite =
         ap (with_newcomer goes unite x) whole
-        ∙ newcomer_past goes x unite front (y ∷ back) (all_before goes x front y back (subst (IsPartitionedBy (λ z. goes z x)) whole parts) (subst (IsHostLast goes x) whole last) passes)
+        ∙ newcomer_past goes x unite front (y ∷ back)
+        (all_before goes x front y back (subst (IsPartitionedBy (λ z. goes z x)) whole parts) (subst (IsHostLast goes x) whole last) passes)
         ∙ rw (passes, takes) refl
 
     replaced_here : (v : X) → all_of (take i cs) ++ (set (get_or cs i d).items p v ++ all_of (drop (suc i) cs)) ≡ front ++ v ∷ back
@@ -56,12 +60,15 @@ module _ {X Z : Type 0} (goes : X → X → Bool) (x y : X) (passes : goes y x �
         ∙ regrouped (all_of (take i cs)) (take p (get_or cs i d).items) v (drop (suc p) (get_or cs i d).items) (all_of (drop (suc i) cs))
 
   -- it takes the newcomer in
-  pub known_host : (cs : List (VecDeque X Z)) (i p : ℕ) → StandsAt y i p cs → IsPartitionedBy (λ z. goes z x) (all_of cs) → IsHostLast goes x (all_of cs) → Some y ≡ host goes x (all_of cs)
+  pub known_host : (cs : List (VecDeque X Z)) (i p : ℕ) → StandsAt y i p cs → IsPartitionedBy (λ z. goes z x) (all_of cs)
+      → IsHostLast goes x (all_of cs) → Some y ≡ host goes x (all_of cs)
   known_host [] i p there parts last = absurd (omega (arith, there.0))
   known_host (c ∷ cs) i p there parts last = sym (host_here (c ∷ cs) i p there parts last c)
 
-  pub known_taken : (unite : X → X → X) (cs ds : List (VecDeque X Z)) (i n p : ℕ) (v : X) → n ≡ i + 1 → StandsAt y i p cs → IsPartitionedBy (λ z. goes z x) (all_of cs) → IsHostLast goes x (all_of cs) → v ≡ unite y x
-      → ((d : VecDeque X Z) → all_of ds ≡ all_of (take i cs) ++ (set (get_or cs i d).items p v ++ all_of (drop n cs))) → all_of ds ≡ with_newcomer goes unite x (all_of cs)
+  pub known_taken : (unite : X → X → X) (cs ds : List (VecDeque X Z)) (i n p : ℕ) (v : X) → n ≡ i + 1 → StandsAt y i p cs
+      → IsPartitionedBy (λ z. goes z x) (all_of cs) → IsHostLast goes x (all_of cs) → v ≡ unite y x
+      → ((d : VecDeque X Z) → all_of ds ≡ all_of (take i cs) ++ (set (get_or cs i d).items p v ++ all_of (drop n cs))) → all_of ds
+      ≡ with_newcomer goes unite x (all_of cs)
   known_taken unite [] ds i n p v next there parts last taken is = absurd (omega (arith, there.0))
   known_taken unite (c ∷ cs) ds i n p v next there parts last taken is =
       let one : n ≡ suc i = omega (arith, next) in

@@ -1,15 +1,18 @@
 -- Members in buckets: the first leaves them.
-use Rattle.std.proofs.Common.{◌≡◌, ◌≢◌, ◌∙◌, ℕ, ℤ, zero, suc, ◌-◌, ◌<◌, List, [], ◌∷◌, ◌++◌, length, Option, Some, None, IsSome, Bool, true, false, if◌then◌else◌, refl, sym, ap, subst, arith, inl, inr}
+use Rattle.std.proofs.Common.{◌≡◌, ◌≢◌, ◌∙◌, ℕ, ℤ, zero, suc, ◌-◌, ◌<◌, List, [], ◌∷◌, ◌++◌, length, Option, Some, None, IsSome, Bool, true, false}
+use Rattle.std.proofs.Common.{if◌then◌else◌, refl, sym, ap, subst, arith, inl, inr}
 use Rattle.std.proofs.lemmas.Bool.{cases_eq}
 use Rattle.std.proofs.lemmas.Grind.{common_steps}
 use Rattle.std.specs.Prelude.{AllPairs, nat_le, option_map, option_to_list}
 use Rattle.std.specs.List.{AllByRecursion}
 use Rattle.gw_members.specs.Chain.{first, rest}
-use Rattle.gw_chains.specs.Buckets.{times, last_or, Links, run, links_of, member_at, members_at, members_of, total, one_if_there, without_first_link, Before, IsBucket, AreBuckets, LoseFirst}
+use Rattle.gw_chains.specs.Buckets.{times, last_or, Links, run, links_of, member_at, members_at, members_of, total, one_if_there, without_first_link}
+use Rattle.gw_chains.specs.Buckets.{Before, IsBucket, AreBuckets, LoseFirst}
 use Rattle.gw_chains.specs.declared.bucket.Bucket.{Bucket}
 use Rattle.gw_chains.specs.declared.bucket.Link.{Link}
 use Rattle.gw_chains.proofs.Places.{pairs_cons, pairs_first, pairs_rest}
-use Rattle.gw_chains.proofs.Linking.{once-same, once-other, times-first, times-append, run_some, some_of, Alike, run-same, links-same, members-same, buckets-same}
+use Rattle.gw_chains.proofs.Linking.{once-same, once-other, times-first, times-append, run_some, some_of, Alike, run-same, links-same, members-same}
+use Rattle.gw_chains.proofs.Linking.{buckets-same}
 use Rattle.gw_chains.proofs.Joining.{led_of}
 
 pub last_or_run : {X : Type 0} (d : ℕ) (S : Links X) (n k : ℕ) → 0 < n → last_or d (run S n k) ≡ last_or k (run S n k)
@@ -24,7 +27,8 @@ same_bucket : (a c : Bucket) → Some a ≡ Some c → a ≡ c
 same_bucket a c e = cc
 
 module _ {X : Type 0} (rank : X → ℤ) where
-  module _ (S T : Links X) (l : Link X) (b : Bucket) (bs : List Bucket) (is : S b.first ≡ Some l) (gone : T b.first ≡ None) (others : (k : ℕ) → k ≢ b.first → T k ≡ S k) (are : AreBuckets rank S (b ∷ bs)) where
+  module _ (S T : Links X) (l : Link X) (b : Bucket) (bs : List Bucket) (is : S b.first ≡ Some l) (gone : T b.first ≡ None)
+      (others : (k : ℕ) → k ≢ b.first → T k ≡ S k) (are : AreBuckets rank S (b ∷ bs)) where
     abbrev tail : List ℕ
     tail = run S (b.count - 1) l.next
 
@@ -81,19 +85,23 @@ module _ {X : Type 0} (rank : X → ℤ) where
     left_one : nat_le b.count 1 ≡ true → LoseFirst rank (Some l.member) S (b ∷ bs) T bs
     left_one few =
         let none : b.count - 1 ≡ 0 = grind (arith, common_steps) in
-        left_with bs (links-same S T bs alike_back ∙ sym (ap (λ m. run S m l.next ++ back) none)) (pairs_rest Before b bs are.order) (buckets-same rank S T bs alike_back are.each.1)
+        left_with bs (links-same S T bs alike_back ∙ sym (ap (λ m. run S m l.next ++ back) none)) (pairs_rest Before b bs are.order)
+        (buckets-same rank S T bs alike_back are.each.1)
 
     left_more : nat_le b.count 1 ≡ false → LoseFirst rank (Some l.member) S (b ∷ bs) T (shorter ∷ bs)
     left_more many =
         let some : 0 < b.count - 1 = grind (arith, common_steps) in
         let same = run-same S T (b.count - 1) l.next alike_tail in
-        let members : members_at S (run S b.count b.first) ≡ l.member ∷ members_at S tail = ap (members_at S) step ∙ ap (λ o. member_at o ++ members_at S tail) is in
+        let members : members_at S (run S b.count b.first) ≡ l.member ∷ members_at S tail = ap (members_at S) step
+        ∙ ap (λ o. member_at o ++ members_at S tail) is in
         left_with (shorter ∷ bs) (ap (λ zs. zs ++ links_of T bs) same ∙ ap (λ zs. tail ++ zs) (links-same S T bs alike_back))
         (pairs_cons Before shorter bs (pairs_first Before b bs are.order) (pairs_rest Before b bs are.order)) (
           record {
             some = some;
             last = ap (last_or l.next) same ∙ sym (last_or_run b.first S (b.count - 1) l.next some) ∙ sym (ap (last_or b.first) step) ∙ are.each.0.last;
-            alike = subst (AllByRecursion (λ (y : X). rank y ≡ b.rank)) (sym (ap (members_at T) same ∙ members-same S T tail (λ k some. ap member_at (alike_tail k some)))) (subst (AllByRecursion (λ (y : X). rank y ≡ b.rank)) members are.each.0.alike).1;
+            alike = subst (AllByRecursion (λ (y : X). rank y ≡ b.rank))
+                (sym (ap (members_at T) same ∙ members-same S T tail (λ k some. ap member_at (alike_tail k some))))
+                (subst (AllByRecursion (λ (y : X). rank y ≡ b.rank)) members are.each.0.alike).1;
           },
           buckets-same rank S T bs alike_back are.each.1,
         )
@@ -110,24 +118,30 @@ module _ {X : Type 0} (rank : X → ℤ) where
   first_leads S [] b is are = absurd cc
   first_leads S (c ∷ cs) b is are =
       subst (λ (d : Bucket). IsSome (S d.first)) (sym (same_bucket b c is))
-      ((led_of rank S (c ∷ cs) are).leads c.first (omega (arith, first_in_run S c.count c.first are.each.0.some, times-append c.first (run S c.count c.first) (links_of S cs))))
+      ((led_of rank S (c ∷ cs) are).leads c.first
+      (omega (arith, first_in_run S c.count c.first are.each.0.some, times-append c.first (run S c.count c.first) (links_of S cs))))
 
-  pub left : (S T : Links X) (l : Link X) (bs : List Bucket) (b : Bucket) → Some b ≡ first bs → S b.first ≡ Some l → T b.first ≡ None → ((k : ℕ) → k ≢ b.first → T k ≡ S k) → AreBuckets rank S bs → LoseFirst rank (Some l.member) S bs T (without_first_link l.next bs)
+  pub left : (S T : Links X) (l : Link X) (bs : List Bucket) (b : Bucket) → Some b ≡ first bs → S b.first ≡ Some l → T b.first ≡ None
+      → ((k : ℕ) → k ≢ b.first → T k ≡ S k) → AreBuckets rank S bs → LoseFirst rank (Some l.member) S bs T (without_first_link l.next bs)
   left S T l [] b is there gone others are = absurd cc
   left S T l (c ∷ cs) b is there gone others are =
       let same : b ≡ c = same_bucket b c is in
-      left_first S T l c cs (ap S (ap (λ (d : Bucket). d.first) (sym same)) ∙ there) (ap T (ap (λ (d : Bucket). d.first) (sym same)) ∙ gone) (λ k other. others k (λ clash. other (clash ∙ ap (λ (d : Bucket). d.first) same))) are
+      left_first S T l c cs (ap S (ap (λ (d : Bucket). d.first) (sym same)) ∙ there)
+      (ap T (ap (λ (d : Bucket). d.first) (sym same)) ∙ gone) (λ k other. others k (λ clash. other (clash ∙ ap (λ (d : Bucket). d.first) same))) are
 
   -- the rank of the first member is that of the first bucket
-  pub first_rank_of : (S : Links X) (bs : List Bucket) → AreBuckets rank S bs → option_map (λ (b : Bucket). b.rank) (first bs) ≡ option_map rank (first (members_of S bs))
+  pub first_rank_of : (S : Links X) (bs : List Bucket) → AreBuckets rank S bs → option_map (λ (b : Bucket). b.rank) (first bs)
+      ≡ option_map rank (first (members_of S bs))
   first_rank_of S [] are = refl
   first_rank_of S (b ∷ bs) are =
       let s = some_of (S b.first) (first_leads S (b ∷ bs) b refl are) in
       let one : suc (b.count - 1) ≡ b.count = omega (arith, are.each.0.some) in
       let behind = run S (b.count - 1) s.0.next in
       let step : run S b.count b.first ≡ b.first ∷ behind = sym (ap (λ m. run S m b.first) one) ∙ run_some S (b.count - 1) b.first s.0 s.1 in
-      let whole : members_of S (b ∷ bs) ≡ s.0.member ∷ members_at S (behind ++ links_of S bs) = ap (λ zs. members_at S (zs ++ links_of S bs)) step ∙ ap (λ o. member_at o ++ members_at S (behind ++ links_of S bs)) s.1 in
-      let shown : members_at S (run S b.count b.first) ≡ s.0.member ∷ members_at S behind = ap (members_at S) step ∙ ap (λ o. member_at o ++ members_at S behind) s.1 in
+      let whole : members_of S (b ∷ bs) ≡ s.0.member ∷ members_at S (behind ++ links_of S bs) =
+      ap (λ zs. members_at S (zs ++ links_of S bs)) step ∙ ap (λ o. member_at o ++ members_at S (behind ++ links_of S bs)) s.1 in
+      let shown : members_at S (run S b.count b.first) ≡ s.0.member ∷ members_at S behind = ap (members_at S) step
+      ∙ ap (λ o. member_at o ++ members_at S behind) s.1 in
       ap Some (sym (subst (AllByRecursion (λ (y : X). rank y ≡ b.rank)) shown are.each.0.alike).0) ∙ sym (ap (λ es. option_map rank (first es)) whole)
 
   -- somebody is the first where there are some

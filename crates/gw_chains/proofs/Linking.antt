@@ -1,5 +1,6 @@
 -- Members in buckets: what a newcomer makes of the links and their buckets, and what the one does that leaves.
-use Rattle.std.proofs.Common.{◌≡◌, ◌≢◌, ◌∙◌, ℕ, ℤ, zero, suc, ◌+◌, ◌-◌, ◌^◌, ◌<◌, ◌≤◌, min, List, [], ◌∷◌, ◌++◌, Option, Some, None, IsSome, Bool, true, false, if◌then◌else◌, refl, sym, ap, subst, arith, append_assoc}
+use Rattle.std.proofs.Common.{◌≡◌, ◌≢◌, ◌∙◌, ℕ, ℤ, zero, suc, ◌+◌, ◌-◌, ◌^◌, ◌<◌, ◌≤◌, min, List, [], ◌∷◌, ◌++◌, Option, Some, None, IsSome, Bool}
+use Rattle.std.proofs.Common.{true, false, if◌then◌else◌, refl, sym, ap, subst, arith, append_assoc}
 use Rattle.std.proofs.lemmas.Grind.{common_steps}
 use Rattle.std.proofs.lemmas.Int.{ints}
 use Rattle.std.specs.Prelude.{All, int_le, ◌<ℤ◌}
@@ -7,7 +8,8 @@ use Rattle.std.specs.List.{AllByRecursion}
 use Rattle.gw_members.specs.Chain.{placed_behind}
 use Rattle.gw_chains.specs.Chunks.{begins_in}
 use Rattle.gw_chains.specs.Newcomers.{host}
-use Rattle.gw_chains.specs.Buckets.{once, times, last_or, Links, links_behind, run, links_of, member_at, members_at, members_of, linked_to, one_if_there, upto, bucket_of_one, IsBucket}
+use Rattle.gw_chains.specs.Buckets.{once, times, last_or, Links, links_behind, run, links_of, member_at, members_at, members_of, linked_to}
+use Rattle.gw_chains.specs.Buckets.{one_if_there, upto, bucket_of_one, IsBucket}
 use Rattle.gw_chains.specs.declared.bucket.Bucket.{Bucket}
 use Rattle.gw_chains.specs.declared.bucket.Link.{Link}
 
@@ -58,7 +60,8 @@ module _ {X : Type 0} where
       ap (λ o. k ∷ links_behind o (run T n)) (alike k (times-first k (links_behind (S k) (run S n))))
       ∙ ap (λ zs. k ∷ zs) (behind (S k) (alike_rest S T k (links_behind (S k) (run S n)) alike) (λ m here. run-same S T n m here))
     where
-      behind : (o : Option (Link X)) → Alike S T (links_behind o (run S n)) → ((m : ℕ) → Alike S T (run S n m) → run T n m ≡ run S n m) → links_behind o (run T n) ≡ links_behind o (run S n)
+      behind : (o : Option (Link X)) → Alike S T (links_behind o (run S n)) → ((m : ℕ) → Alike S T (run S n m) → run T n m ≡ run S n m)
+          → links_behind o (run T n) ≡ links_behind o (run S n)
       behind None here later = refl
       behind (Some l) here later = later l.next here
 
@@ -81,7 +84,8 @@ module _ {X : Type 0} where
 
   pub members-append : (S : Links X) (xs ys : List ℕ) → members_at S (xs ++ ys) ≡ members_at S xs ++ members_at S ys
   members-append S [] ys = refl
-  members-append S (x ∷ xs) ys = ap (λ zs. member_at (S x) ++ zs) (members-append S xs ys) ∙ sym (append_assoc (member_at (S x)) (members_at S xs) (members_at S ys))
+  members-append S (x ∷ xs) ys = ap (λ zs. member_at (S x) ++ zs) (members-append S xs ys)
+      ∙ sym (append_assoc (member_at (S x)) (members_at S xs) (members_at S ys))
 
 module _ {X : Type 0} (rank : X → ℤ) where
   pub bucket-same : (S T : Links X) (b : Bucket) → Alike S T (run S b.count b.first) → IsBucket rank S b → IsBucket rank T b
@@ -90,7 +94,8 @@ module _ {X : Type 0} (rank : X → ℤ) where
       record {
         some = is.some;
         last = ap (last_or b.first) same ∙ is.last;
-        alike = subst (AllByRecursion (λ (y : X). rank y ≡ b.rank)) (sym (ap (members_at T) same ∙ members-same S T (run S b.count b.first) (λ k some. ap member_at (alike k some)))) is.alike;
+        alike = subst (AllByRecursion (λ (y : X). rank y ≡ b.rank))
+            (sym (ap (members_at T) same ∙ members-same S T (run S b.count b.first) (λ k some. ap member_at (alike k some)))) is.alike;
       }
 
   pub buckets-same : (S T : Links X) (bs : List Bucket) → Alike S T (links_of S bs) → AllByRecursion (IsBucket rank S) bs → AllByRecursion (IsBucket rank T) bs
@@ -131,7 +136,8 @@ module _ {X : Type 0} (S T : Links X) (e : X) (j x : ℕ) (vacant : S j ≡ None
   }
 
   -- the last of a run is linked to the newcomer
-  pub run-longer : (l n k : ℕ) → T l ≡ linked_to j (S l) → ((i : ℕ) → i ≢ j → i ≢ l → T i ≡ S i) → last_or k (run S (suc n) k) ≡ l → ((i : ℕ) → 0 < times i (run S (suc n) k) → IsSome (S i)) → times l (run S (suc n) k) ≤ 1 → run T (suc (suc n)) k ≡ run S (suc n) k ++ j ∷ []
+  pub run-longer : (l n k : ℕ) → T l ≡ linked_to j (S l) → ((i : ℕ) → i ≢ j → i ≢ l → T i ≡ S i) → last_or k (run S (suc n) k) ≡ l
+      → ((i : ℕ) → 0 < times i (run S (suc n) k) → IsSome (S i)) → times l (run S (suc n) k) ≤ 1 → run T (suc (suc n)) k ≡ run S (suc n) k ++ j ∷ []
   run-longer l zero k linked others last leads single =
       let s = some_of (S k) (leads k (times-first k (links_behind (S k) (run S 0)))) in
       let one : run S 1 k ≡ k ∷ [] = run_some S 0 k s.0 s.1 in
@@ -182,7 +188,8 @@ module _ {X : Type 0} (p : X → Bool) (e : X) where
   placed_first (z ∷ zs) fails = rw fails refl
 
 -- all members of a bucket are ahead of one of the same rank or a higher one
-pub all_upto : {X : Type 0} (rank : X → ℤ) (e : X) (t : ℤ) (ys : List X) → int_le t (rank e) ≡ true → AllByRecursion (λ (y : X). rank y ≡ t) ys → AllByRecursion (λ y. upto rank e y ≡ true) ys
+pub all_upto : {X : Type 0} (rank : X → ℤ) (e : X) (t : ℤ) (ys : List X) → int_le t (rank e) ≡ true
+    → AllByRecursion (λ (y : X). rank y ≡ t) ys → AllByRecursion (λ y. upto rank e y ≡ true) ys
 all_upto rank e t [] passes all = tt
 all_upto rank e t (y ∷ ys) passes all = (ap (λ u. int_le u (rank e)) all.0 ∙ passes, all_upto rank e t ys passes all.1)
 
@@ -206,38 +213,45 @@ module _ {X : Type 0} (S : Links X) where
 
 module _ {X : Type 0} (rank : X → ℤ) (S : Links X) where
   -- the first member of a bucket has its rank
-  pub begins_at : (q : ℤ → Bool) (n k : ℕ) (t : ℤ) (ks : List ℕ) → 0 < n → ((i : ℕ) → 0 < times i (run S n k) → IsSome (S i)) → AllByRecursion (λ (y : X). rank y ≡ t) (members_at S (run S n k)) → begins_in (λ y. q (rank y)) (members_at S (run S n k ++ ks)) ≡ q t
+  pub begins_at : (q : ℤ → Bool) (n k : ℕ) (t : ℤ) (ks : List ℕ) → 0 < n → ((i : ℕ) → 0 < times i (run S n k) → IsSome (S i))
+      → AllByRecursion (λ (y : X). rank y ≡ t) (members_at S (run S n k)) → begins_in (λ y. q (rank y)) (members_at S (run S n k ++ ks)) ≡ q t
   begins_at q zero k t ks some leads all = absurd (omega (arith, some))
   begins_at q (suc n) k t ks some leads all =
       let s = some_of (S k) (leads k (times-first k (links_behind (S k) (run S n)))) in
       let step = run_some S n k s.0 s.1 in
       let tail = run S n s.0.next in
       let shown : members_at S (run S (suc n) k) ≡ s.0.member ∷ members_at S tail = ap (members_at S) step ∙ ap (λ o. member_at o ++ members_at S tail) s.1 in
-      let whole : members_at S (run S (suc n) k ++ ks) ≡ s.0.member ∷ members_at S (tail ++ ks) = ap (λ zs. members_at S (zs ++ ks)) step ∙ ap (λ o. member_at o ++ members_at S (tail ++ ks)) s.1 in
+      let whole : members_at S (run S (suc n) k ++ ks) ≡ s.0.member ∷ members_at S (tail ++ ks) = ap (λ zs. members_at S (zs ++ ks)) step
+      ∙ ap (λ o. member_at o ++ members_at S (tail ++ ks)) s.1 in
       ap (begins_in (λ (y : X). q (rank y))) whole ∙ ap q (subst (AllByRecursion (λ (y : X). rank y ≡ t)) shown all).0
 
   -- no bucket that stands behind a later one is ahead of a member
-  pub rest_fails : (e : X) (b : Bucket) (bs : List Bucket) → AreLed S (links_of S bs) → AllByRecursion (IsBucket rank S) bs → All (λ (c : Bucket). b.rank <ℤ c.rank) bs → int_le (rank e) b.rank ≡ true → begins_in (upto rank e) (members_of S bs) ≡ false
+  pub rest_fails : (e : X) (b : Bucket) (bs : List Bucket) → AreLed S (links_of S bs) → AllByRecursion (IsBucket rank S) bs
+      → All (λ (c : Bucket). b.rank <ℤ c.rank) bs → int_le (rank e) b.rank ≡ true → begins_in (upto rank e) (members_of S bs) ≡ false
   rest_fails e b [] led each later passes = refl
   rest_fails e b (c ∷ cs) led each later passes =
       let above : b.rank <ℤ c.rank = later 0 c (omega arith) in
       let fails : int_le c.rank (rank e) ≡ false = grind (arith, ints) in
-      begins_at (λ t. int_le t (rank e)) c.count c.first c.rank (links_of S cs) each.0.some (led_front S (run S c.count c.first) (links_of S cs) led).leads each.0.alike ∙ fails
+      begins_at (λ t. int_le t (rank e)) c.count c.first c.rank (links_of S cs) each.0.some
+      (led_front S (run S c.count c.first) (links_of S cs) led).leads each.0.alike ∙ fails
 
   -- the last link of a host is one of the buckets'
-  pub host_within_links : (n : Bucket) (bs : List Bucket) (h : Bucket) → AllByRecursion (IsBucket rank S) bs → host goes n bs ≡ Some h → 0 < times h.last (links_of S bs)
+  pub host_within_links : (n : Bucket) (bs : List Bucket) (h : Bucket) → AllByRecursion (IsBucket rank S) bs → host goes n bs ≡ Some h → 0
+      < times h.last (links_of S bs)
   host_within_links n [] h each is = absurd cc
   host_within_links n (b ∷ bs) h each is = by_test (goes b n) (goes n b) is (λ later. host_within_links n bs h each.1 later)
     where
       here : b ≡ h → 0 < times h.last (links_of S (b ∷ bs))
       here same =
           let within = last_in_run S b.count b.first b.last each.0.some each.0.last in
-          subst (λ (c : Bucket). 0 < times c.last (links_of S (b ∷ bs))) same (omega (arith, within, times-append b.last (run S b.count b.first) (links_of S bs)))
+          subst (λ (c : Bucket). 0 < times c.last (links_of S (b ∷ bs))) same
+          (omega (arith, within, times-append b.last (run S b.count b.first) (links_of S bs)))
 
       one : (a c : Bucket) → Some a ≡ Some c → a ≡ c
       one a c e = cc
 
-      by_test : (p q : Bool) → (if p then (if q then Some b else host goes n bs) else None) ≡ Some h → (host goes n bs ≡ Some h → 0 < times h.last (links_of S bs)) → 0 < times h.last (links_of S (b ∷ bs))
+      by_test : (p q : Bool) → (if p then (if q then Some b else host goes n bs) else None) ≡ Some h
+          → (host goes n bs ≡ Some h → 0 < times h.last (links_of S bs)) → 0 < times h.last (links_of S (b ∷ bs))
       by_test true true found later = here (one b h found)
       by_test true false found later = omega (arith, later found, times-append h.last (run S b.count b.first) (links_of S bs))
       by_test false q found later = absurd cc

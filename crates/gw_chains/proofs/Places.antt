@@ -1,5 +1,6 @@
 -- A newcomer's place in a list that is kept in order.
-use Rattle.std.proofs.Common.{◌≡◌, ◌∙◌, ℕ, zero, suc, ◌+◌, ◌-◌, ◌<◌, ◌≤◌, List, [], ◌∷◌, length, Some, Bool, true, false, true≢false, if◌then◌else◌, refl, ap, sym, arith, get_or, subst, inl, inr, ℤ, ◌≤ℤ◌}
+use Rattle.std.proofs.Common.{◌≡◌, ◌∙◌, ℕ, zero, suc, ◌+◌, ◌-◌, ◌<◌, ◌≤◌, List, [], ◌∷◌, length, Some, Bool, true, false, true≢false, if◌then◌else◌}
+use Rattle.std.proofs.Common.{refl, ap, sym, arith, get_or, subst, inl, inr, ℤ, ◌≤ℤ◌}
 use Rattle.std.specs.Prelude.{All, AllPairs, insert, int_le, int_lt}
 use Rattle.std.proofs.lemmas.List.Elements.{All-head, All-tail, All-cons, All-nil}
 use Rattle.std.specs.List.Sorted.{IsPartitionedBy, IsPartitionPoint}
@@ -11,12 +12,15 @@ use Rattle.gw_members.specs.Chain.{placed_behind, first, rest}
 
 module _ {A : Type 0} where
   -- the place behind the longest front that passes
-  pub insert-placed_behind : (p : A → Bool) (x : A) (xs : List A) (i : ℕ) → i ≤ length xs → IsPartitionPoint (λ y. p y ≡ true) (λ y. p y ≡ false) xs i → insert xs i x ≡ placed_behind p x xs
+  pub insert-placed_behind : (p : A → Bool) (x : A) (xs : List A) (i : ℕ) → i ≤ length xs
+      → IsPartitionPoint (λ y. p y ≡ true) (λ y. p y ≡ false) xs i → insert xs i x ≡ placed_behind p x xs
   insert-placed_behind p x [] zero within point = refl
   insert-placed_behind p x [] (suc i) within point = absurd (omega arith)
   insert-placed_behind p x (y ∷ ys) zero within point = rw (point.1 0 y (omega arith) (omega arith))
   insert-placed_behind p x (y ∷ ys) (suc i) within point =
-      rw (point.0 0 y (omega arith) (omega arith)) (ap (λ zs. y ∷ zs) (insert-placed_behind p x ys i (omega arith) (λ k d a b. point.0 (suc k) d (omega arith) (omega arith), λ k d a b. point.1 (suc k) d (omega arith) (omega arith))))
+      rw (point.0 0 y (omega arith) (omega arith))
+      (ap (λ zs. y ∷ zs) (insert-placed_behind p x ys i (omega arith)
+      (λ k d a b. point.0 (suc k) d (omega arith) (omega arith), λ k d a b. point.1 (suc k) d (omega arith) (omega arith))))
 
   related : (R : A → A → Type 0) (u v s t : A) → u ≡ s → v ≡ t → R s t → R u v
   related R u v s t p q h = subst (λ y. R u y) (sym q) (subst (λ y. R y t) (sym p) h)
@@ -30,16 +34,20 @@ module _ {A : Type 0} where
   at_place x xs i b d within same = subst (λ n. get_or (insert xs i x) n d ≡ x) (sym same) (get_or-insert_at xs i x d within)
 
   -- an insertion between what may come before x and what may come after it keeps the order
-  AllPairs-insert : (R : A → A → Type 0) (x : A) (xs : List A) (i : ℕ) → i ≤ length xs → ((k : ℕ) (d : A) → k < i → R (get_or xs k d) x) → ((k : ℕ) (d : A) → i ≤ k → k < length xs → R x (get_or xs k d)) → AllPairs R xs → AllPairs R (insert xs i x)
+  AllPairs-insert : (R : A → A → Type 0) (x : A) (xs : List A) (i : ℕ) → i ≤ length xs → ((k : ℕ) (d : A) → k < i → R (get_or xs k d) x)
+      → ((k : ℕ) (d : A) → i ≤ k → k < length xs → R x (get_or xs k d)) → AllPairs R xs → AllPairs R (insert xs i x)
   AllPairs-insert R x xs i within front back ordered a b d lt below =
       let long : length (insert xs i x) ≡ length xs + 1 = length-insert xs i x within in
       elim (cases_order b i) [
         | inl same ↦ related R _ _ _ _ (get_or-insert_below xs i x d a (omega arith) within) (at_place x xs i b d within same) (front a d (omega arith))
-        | inr (inl under) ↦ related R _ _ _ _ (get_or-insert_below xs i x d a (omega arith) within) (get_or-insert_below xs i x d b under within) (ordered a b d lt (omega arith))
+        | inr (inl under) ↦ related R _ _ _ _ (get_or-insert_below xs i x d a (omega arith) within)
+            (get_or-insert_below xs i x d b under within) (ordered a b d lt (omega arith))
         | inr (inr over) ↦ elim (cases_order a i) [
           | inl same ↦ related R _ _ _ _ (at_place x xs i a d within same) (above x xs i b d within over) (back (b - 1) d (omega arith) (omega arith))
-          | inr (inl under) ↦ related R _ _ _ _ (get_or-insert_below xs i x d a under within) (above x xs i b d within over) (ordered a (b - 1) d (omega arith) (omega arith))
-          | inr (inr higher) ↦ related R _ _ _ _ (above x xs i a d within higher) (above x xs i b d within over) (ordered (a - 1) (b - 1) d (omega arith) (omega arith))
+          | inr (inl under) ↦ related R _ _ _ _ (get_or-insert_below xs i x d a under within) (above x xs i b d within over)
+              (ordered a (b - 1) d (omega arith) (omega arith))
+          | inr (inr higher) ↦ related R _ _ _ _ (above x xs i a d within higher) (above x xs i b d within over)
+              (ordered (a - 1) (b - 1) d (omega arith) (omega arith))
         ]
       ]
 
@@ -62,18 +70,22 @@ module _ {A : Type 0} where
   partitioned R p x xs ranks ordered = parts_in_order R p xs ranks.falls ordered
 
   -- where the last passes, all do, and the partition point is the end
-  pub all_pass : (p : A → Bool) (xs : List A) (last : A) → 0 < length xs → last ≡ get_or xs (length xs - 1) last → p last ≡ true → IsPartitionedBy p xs → IsPartitionPoint (λ y. p y ≡ true) (λ y. p y ≡ false) xs (length xs)
+  pub all_pass : (p : A → Bool) (xs : List A) (last : A) → 0 < length xs → last ≡ get_or xs (length xs - 1) last → p last ≡ true
+      → IsPartitionedBy p xs → IsPartitionPoint (λ y. p y ≡ true) (λ y. p y ≡ false) xs (length xs)
   all_pass p xs last some is passes parts = (
-    λ k d a b. parts k (length xs - 1) d (omega arith) (omega arith) (subst (λ y. p y ≡ true) (is ∙ get_or_default xs (length xs - 1) last d (omega arith)) passes),
+    λ k d a b. parts k (length xs - 1) d (omega arith) (omega arith)
+        (subst (λ y. p y ≡ true) (is ∙ get_or_default xs (length xs - 1) last d (omega arith)) passes),
     λ k d a b. absurd (omega arith),
   )
 
   -- an insertion at the partition point puts x at its place, and keeps the order
-  pub in_order : (R : A → A → Type 0) (p : A → Bool) (x : A) (xs ys : List A) (i : ℕ) → Ranks R p x → AllPairs R xs → i ≤ length xs → (IsPartitionedBy p xs → IsPartitionPoint (λ y. p y ≡ true) (λ y. p y ≡ false) xs i) → ys ≡ insert xs i x → AllPairs R ys × (ys ≡ placed_behind p x xs)
+  pub in_order : (R : A → A → Type 0) (p : A → Bool) (x : A) (xs ys : List A) (i : ℕ) → Ranks R p x → AllPairs R xs → i ≤ length xs
+      → (IsPartitionedBy p xs → IsPartitionPoint (λ y. p y ≡ true) (λ y. p y ≡ false) xs i) → ys ≡ insert xs i x → AllPairs R ys × (ys ≡ placed_behind p x xs)
   in_order R p x xs ys i ranks ordered within divides inserted =
       let point : IsPartitionPoint (λ y. p y ≡ true) (λ y. p y ≡ false) xs i = divides (partitioned R p x xs ranks ordered) in
       rw inserted (
-        AllPairs-insert R x xs i within (λ k d a. ranks.behind (get_or xs k d) (point.0 k d (omega arith) a)) (λ k d a b. ranks.before (get_or xs k d) (point.1 k d a b)) ordered,
+        AllPairs-insert R x xs i within (λ k d a. ranks.behind (get_or xs k d) (point.0 k d (omega arith) a))
+            (λ k d a b. ranks.before (get_or xs k d) (point.1 k d a b)) ordered,
         insert-placed_behind p x xs i within point,
       )
 
@@ -123,7 +135,8 @@ module _ {A : Type 0} where
 
   -- none that fails stands before one that passes
   all_before : (R : A → A → Type 0) (p : A → Bool) (x y : A) (ys : List A) → Ranks R p x → p y ≡ false → All (R y) ys → All (R x) (y ∷ ys)
-  all_before R p x y ys ranks fails all = All-cons (R x) y ys (ranks.before y fails) (λ k d below. case (get_or ys k d) (all k d below) (p (get_or ys k d)) refl)
+  all_before R p x y ys ranks fails all =
+      All-cons (R x) y ys (ranks.before y fails) (λ k d below. case (get_or ys k d) (all k d below) (p (get_or ys k d)) refl)
     where
       case : (z : A) → R y z → (b : Bool) → p z ≡ b → R x z
       case z r true is = absurd (true≢false (sym (ranks.falls y z r is) ∙ fails))

@@ -21,5 +21,6 @@ pub behind_by_rank : (x : Member) (xs : List Member) → in_time (λ (m : Member
 behind_by_rank x xs = placed-same _ _ x (λ y. le_turned y.priority x.priority) xs
 
 -- ahead of them
-pub ahead_by_rank : (x : Member) (xs : List Member) → placed_behind (λ (m : Member). int_lt (neg_ℤ m.priority) (neg_ℤ x.priority)) x xs ≡ ahead (λ (m : Member). m.priority) x xs
+pub ahead_by_rank : (x : Member) (xs : List Member) → placed_behind (λ (m : Member). int_lt (neg_ℤ m.priority) (neg_ℤ x.priority)) x xs
+    ≡ ahead (λ (m : Member). m.priority) x xs
 ahead_by_rank x xs = placed-same _ _ x (λ y. lt_turned y.priority x.priority) xs

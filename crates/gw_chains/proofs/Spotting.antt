@@ -1,5 +1,6 @@
 -- Places among buckets, and the spots there.
-use Rattle.std.proofs.Common.{◌≡◌, ◌≢◌, ◌∙◌, ℕ, zero, suc, ◌+◌, ◌-◌, ◌<◌, ◌≤◌, ℤ, List, [], ◌∷◌, ◌++◌, length, drop, get_or, set, ◌⊎◌, Option, Some, None, IsSome, Bool, true, false, if◌then◌else◌, refl, sym, ap, subst, arith, inl, inr}
+use Rattle.std.proofs.Common.{◌≡◌, ◌≢◌, ◌∙◌, ℕ, zero, suc, ◌+◌, ◌-◌, ◌<◌, ◌≤◌, ℤ, List, [], ◌∷◌, ◌++◌, length, drop, get_or, set, ◌⊎◌, Option, Some}
+use Rattle.std.proofs.Common.{None, IsSome, Bool, true, false, if◌then◌else◌, refl, sym, ap, subst, arith, inl, inr}
 use Rattle.std.proofs.lemmas.Bool.{cases_order}
 use Rattle.std.proofs.lemmas.Grind.{common_steps}
 use Rattle.std.specs.Prelude.{nat_le, remove, OnSome}
@@ -20,7 +21,8 @@ count-here [] n b within is = absurd (omega (arith, within))
 count-here (c ∷ bs) zero b within is = ap (λ (d : Bucket). d.count) (sym is)
 count-here (c ∷ bs) (suc n) b within is = count-here bs n b (omega (arith, within)) is
 
-pub link-here : {X : Type 0} (S : Links X) (bs : List Bucket) (n p : ℕ) (b : Bucket) → n < length bs → b ≡ get_or bs n b → link_at S bs n p ≡ last_or b.first (run S (suc p) b.first)
+pub link-here : {X : Type 0} (S : Links X) (bs : List Bucket) (n p : ℕ) (b : Bucket) → n < length bs → b ≡ get_or bs n b → link_at S bs n p
+    ≡ last_or b.first (run S (suc p) b.first)
 link-here S [] n p b within is = absurd (omega (arith, within))
 link-here S (c ∷ bs) zero p b within is = ap (λ (d : Bucket). last_or d.first (run S (suc p) d.first)) (sym is)
 link-here S (c ∷ bs) (suc n) p b within is = link-here S bs n p b (omega (arith, within)) is
@@ -36,14 +38,17 @@ few_at [] n = omega arith
 few_at (b ∷ bs) zero = omega arith
 few_at (b ∷ bs) (suc n) = omega (arith, few_at bs n)
 
-pub bucket_there : {X : Type 0} (rank : X → ℤ) (S : Links X) (bs : List Bucket) (n : ℕ) (b : Bucket) → n < length bs → b ≡ get_or bs n b → AllByRecursion (IsBucket rank S) bs → IsBucket rank S b
+pub bucket_there : {X : Type 0} (rank : X → ℤ) (S : Links X) (bs : List Bucket) (n : ℕ) (b : Bucket) → n < length bs → b ≡ get_or bs n b
+    → AllByRecursion (IsBucket rank S) bs → IsBucket rank S b
 bucket_there rank S [] n b within is each = absurd (omega (arith, within))
 bucket_there rank S (c ∷ bs) zero b within is each = subst (IsBucket rank S) (sym is) each.0
 bucket_there rank S (c ∷ bs) (suc n) b within is each = bucket_there rank S bs n b (omega (arith, within)) is each.1
 
-pub run_there : {X : Type 0} (S : Links X) (bs : List Bucket) (n : ℕ) (b : Bucket) → n < length bs → b ≡ get_or bs n b → AreLed S (links_of S bs) → AreLed S (run S b.count b.first)
+pub run_there : {X : Type 0} (S : Links X) (bs : List Bucket) (n : ℕ) (b : Bucket) → n < length bs → b ≡ get_or bs n b
+    → AreLed S (links_of S bs) → AreLed S (run S b.count b.first)
 run_there S [] n b within is led = absurd (omega (arith, within))
-run_there S (c ∷ bs) zero b within is led = subst (λ (d : Bucket). AreLed S (run S d.count d.first)) (sym is) (led_front S (run S c.count c.first) (links_of S bs) led)
+run_there S (c ∷ bs) zero b within is led =
+    subst (λ (d : Bucket). AreLed S (run S d.count d.first)) (sym is) (led_front S (run S c.count c.first) (links_of S bs) led)
 run_there S (c ∷ bs) (suc n) b within is led = run_there S bs n b (omega (arith, within)) is (led_back S (run S c.count c.first) (links_of S bs) led)
 
 pub filled : {X : Type 0} (rank : X → ℤ) (S : Links X) (bs : List Bucket) → AllByRecursion (IsBucket rank S) bs → AreFilled bs
@@ -102,22 +107,26 @@ is_inside bs s settled before = elim (cases_order s.bucket (length bs)) [
 ]
 
 -- the links before and at a spot are there
-pub link_within : {X : Type 0} (rank : X → ℤ) (S : Links X) (bs : List Bucket) (n p : ℕ) → AllByRecursion (IsBucket rank S) bs → p < count_at bs n → 0 < times (link_at S bs n p) (links_of S bs)
+pub link_within : {X : Type 0} (rank : X → ℤ) (S : Links X) (bs : List Bucket) (n p : ℕ) → AllByRecursion (IsBucket rank S) bs → p
+    < count_at bs n → 0 < times (link_at S bs n p) (links_of S bs)
 link_within rank S [] n p each inside = absurd (omega (arith, inside))
 link_within rank S (b ∷ bs) zero p each inside =
     let here = last_or b.first (run S (suc p) b.first) in
     let whole : suc p + (b.count - suc p) ≡ b.count = omega (arith, inside) in
-    let grows : times here (run S (suc p) b.first) ≤ times here (run S b.count b.first) = subst (λ c. times here (run S (suc p) b.first) ≤ times here (run S c b.first)) whole (run_grows S (suc p) (b.count - suc p) b.first here) in
+    let grows : times here (run S (suc p) b.first) ≤ times here (run S b.count b.first) =
+    subst (λ c. times here (run S (suc p) b.first) ≤ times here (run S c b.first)) whole (run_grows S (suc p) (b.count - suc p) b.first here) in
     omega (arith, grows, last_in_run S (suc p) b.first here (omega arith) refl, times-append here (run S b.count b.first) (links_of S bs))
 link_within rank S (b ∷ bs) (suc n) p each inside =
     let here = link_at S bs n p in
     omega (arith, link_within rank S bs n p each.1 inside, times-append here (run S b.count b.first) (links_of S bs))
 
-pub link_there : {X : Type 0} (rank : X → ℤ) (S : Links X) (bs : List Bucket) (n p : ℕ) → AreBuckets rank S bs → p < count_at bs n → IsSome (S (link_at S bs n p))
+pub link_there : {X : Type 0} (rank : X → ℤ) (S : Links X) (bs : List Bucket) (n p : ℕ) → AreBuckets rank S bs → p < count_at bs n
+    → IsSome (S (link_at S bs n p))
 link_there rank S bs n p are inside = (led_of rank S bs are).leads (link_at S bs n p) (link_within rank S bs n p are.each inside)
 
 -- the link of the one before a spot is there
-pub before_there : {X : Type 0} (rank : X → ℤ) (S : Links X) (bs : List Bucket) (s : Spot) → AreBuckets rank S bs → IsSpot S bs s → 0 < s.passed → IsSome (S s.before)
+pub before_there : {X : Type 0} (rank : X → ℤ) (S : Links X) (bs : List Bucket) (s : Spot) → AreBuckets rank S bs → IsSpot S bs s → 0
+    < s.passed → IsSome (S s.before)
 before_there rank S bs s are spot some =
     subst (λ k. IsSome (S k)) (sym (spot.before some)) (link_there rank S bs s.bucket (s.passed - 1) are (omega (arith, spot.within, some)))
 
@@ -127,7 +136,8 @@ spot_first S bs s none = record { within = omega (arith, none); before = λ some
 
 -- WITHOUT ONE
 
-pub set-shorter : (s : Spot) (next : ℕ) (bs : List Bucket) (n : ℕ) (b : Bucket) → n < length bs → b ≡ get_or bs n b → 1 < b.count → set bs n (without_one s next b) ≡ without_link s next bs n
+pub set-shorter : (s : Spot) (next : ℕ) (bs : List Bucket) (n : ℕ) (b : Bucket) → n < length bs → b ≡ get_or bs n b → 1 < b.count
+    → set bs n (without_one s next b) ≡ without_link s next bs n
 set-shorter s next [] n b within is several = absurd (omega (arith, within))
 set-shorter s next (c ∷ bs) zero b within is several = by_test (nat_le c.count 1) refl
   where
@@ -138,7 +148,8 @@ set-shorter s next (c ∷ bs) zero b within is several = by_test (nat_le c.count
     by_test false many = ap (λ d. without_one s next d ∷ bs) is
 set-shorter s next (c ∷ bs) (suc n) b within is several = ap (λ cs. c ∷ cs) (set-shorter s next bs n b (omega (arith, within)) is several)
 
-pub remove-emptied : (s : Spot) (next : ℕ) (bs : List Bucket) (n : ℕ) (b : Bucket) → n < length bs → b ≡ get_or bs n b → b.count ≤ 1 → remove bs n ≡ without_link s next bs n
+pub remove-emptied : (s : Spot) (next : ℕ) (bs : List Bucket) (n : ℕ) (b : Bucket) → n < length bs → b ≡ get_or bs n b → b.count ≤ 1
+    → remove bs n ≡ without_link s next bs n
 remove-emptied s next [] n b within is few = absurd (omega (arith, within))
 remove-emptied s next (c ∷ bs) zero b within is few = by_test (nat_le c.count 1) refl
   where
@@ -155,20 +166,23 @@ pub link-first : {X : Type 0} (S : Links X) (bs : List Bucket) (n p : ℕ) (b : 
 link-first S bs n p b within is none =
     sym (ap (λ q. link_at S bs n q) none ∙ link-here S bs n 0 b within is ∙ ap (last_or b.first) (run_one S b.first))
 
-pub next_at : {X : Type 0} (S : Links X) (bs : List Bucket) (n q : ℕ) (l : Link X) → AreLed S (links_of S bs) → suc q < count_at bs n → S (link_at S bs n q) ≡ Some l → l.next ≡ link_at S bs n (suc q)
+pub next_at : {X : Type 0} (S : Links X) (bs : List Bucket) (n q : ℕ) (l : Link X) → AreLed S (links_of S bs) → suc q < count_at bs n
+    → S (link_at S bs n q) ≡ Some l → l.next ≡ link_at S bs n (suc q)
 next_at S [] n q l led inside is = absurd (omega (arith, inside))
 next_at S (b ∷ bs) zero q l led inside is =
     sym (run_next S q b.first l (led_upto S (suc q) b.count b.first (omega (arith, inside)) (led_front S (run S b.count b.first) (links_of S bs) led)).leads is)
 next_at S (b ∷ bs) (suc n) q l led inside is = next_at S bs n q l (led_back S (run S b.count b.first) (links_of S bs) led) inside is
 
-pub link-next : {X : Type 0} (rank : X → ℤ) (S : Links X) (bs : List Bucket) (s : Spot) (l : Link X) → AreBuckets rank S bs → IsSpot S bs s → s.passed < count_at bs s.bucket → 0 < s.passed → S s.before ≡ Some l → l.next ≡ link_at S bs s.bucket s.passed
+pub link-next : {X : Type 0} (rank : X → ℤ) (S : Links X) (bs : List Bucket) (s : Spot) (l : Link X) → AreBuckets rank S bs → IsSpot S bs s
+    → s.passed < count_at bs s.bucket → 0 < s.passed → S s.before ≡ Some l → l.next ≡ link_at S bs s.bucket s.passed
 link-next rank S bs s l are spot inside some is =
     let one : suc (s.passed - 1) ≡ s.passed = omega (arith, some) in
     next_at S bs s.bucket (s.passed - 1) l (led_of rank S bs are) (omega (arith, inside, some)) (sym (ap S (spot.before some)) ∙ is)
     ∙ ap (λ q. link_at S bs s.bucket q) one
 
 -- the one before a spot is another
-links_apart : {X : Type 0} (S : Links X) (bs : List Bucket) (n q : ℕ) → AreLed S (links_of S bs) → suc q < count_at bs n → link_at S bs n q ≢ link_at S bs n (suc q)
+links_apart : {X : Type 0} (S : Links X) (bs : List Bucket) (n q : ℕ) → AreLed S (links_of S bs) → suc q < count_at bs n
+    → link_at S bs n q ≢ link_at S bs n (suc q)
 links_apart S [] n q led inside same = absurd (omega (arith, inside))
 links_apart S (b ∷ bs) zero q led inside same =
     let front = run S (suc q) b.first in
@@ -179,7 +193,8 @@ links_apart S (b ∷ bs) zero q led inside same =
     absurd (omega (arith, upto.single here, ap (times here) last, times-append here front (here ∷ []), once-same here here refl, within))
 links_apart S (b ∷ bs) (suc n) q led inside same = links_apart S bs n q (led_back S (run S b.count b.first) (links_of S bs) led) inside same
 
-pub before_apart : {X : Type 0} (rank : X → ℤ) (S : Links X) (bs : List Bucket) (s : Spot) → AreBuckets rank S bs → IsSpot S bs s → s.passed < count_at bs s.bucket → 0 < s.passed → s.before ≢ link_at S bs s.bucket s.passed
+pub before_apart : {X : Type 0} (rank : X → ℤ) (S : Links X) (bs : List Bucket) (s : Spot) → AreBuckets rank S bs → IsSpot S bs s
+    → s.passed < count_at bs s.bucket → 0 < s.passed → s.before ≢ link_at S bs s.bucket s.passed
 before_apart rank S bs s are spot inside some same =
     let one : suc (s.passed - 1) ≡ s.passed = omega (arith, some) in
     links_apart S bs s.bucket (s.passed - 1) (led_of rank S bs are) (omega (arith, inside, some))
@@ -192,7 +207,8 @@ on_some P (Some x) is holds = holds
 -- A WALK
 
 -- where a bucket ends the next one begins
-pub place_turn : (bs : List Bucket) (s t : Spot) (b : Bucket) → s.bucket < length bs → b ≡ get_or bs s.bucket b → s.passed ≡ b.count → t.bucket ≡ s.bucket + 1 → t.passed ≡ 0
+pub place_turn : (bs : List Bucket) (s t : Spot) (b : Bucket) → s.bucket < length bs → b ≡ get_or bs s.bucket b → s.passed ≡ b.count
+    → t.bucket ≡ s.bucket + 1 → t.passed ≡ 0
     → place_at bs t.bucket t.passed ≡ place_at bs s.bucket s.passed
 place_turn bs s t b within is ends next first =
     let one : t.bucket ≡ suc s.bucket = omega (arith, next) in
@@ -202,7 +218,8 @@ place_turn bs s t b within is ends next first =
     ∙ ap (λ p. place_at bs (suc s.bucket) p) (first ∙ sym none)
     ∙ place_next bs s.bucket s.passed s.passed within here (omega arith)
 
-pub settled_where : (bs : List Bucket) (s : Spot) (b : Bucket) → s.bucket < length bs → b ≡ get_or bs s.bucket b → s.passed ≢ b.count → s.passed ≤ count_at bs s.bucket → s.passed < count_at bs s.bucket
+pub settled_where : (bs : List Bucket) (s : Spot) (b : Bucket) → s.bucket < length bs → b ≡ get_or bs s.bucket b → s.passed ≢ b.count
+    → s.passed ≤ count_at bs s.bucket → s.passed < count_at bs s.bucket
 settled_where bs s b within is other upto = omega (arith, count-here bs s.bucket b within is, other, upto)
 
 pub settled_first : (bs : List Bucket) (s : Spot) → AreFilled bs → s.passed ≡ 0 → IsSettled bs s
@@ -219,7 +236,8 @@ spot_settled S bs s t spot settled = elim settled [
 ]
 
 -- the spot of a place that was found
-pub spot_found : {X : Type 0} (S : Links X) (bs : List Bucket) (n p before : ℕ) (b : Bucket) → n < length bs → b ≡ get_or bs n b → p < count_at bs n → before ≡ last_or b.first (run S p b.first)
+pub spot_found : {X : Type 0} (S : Links X) (bs : List Bucket) (n p before : ℕ) (b : Bucket) → n < length bs → b ≡ get_or bs n b → p
+    < count_at bs n → before ≡ last_or b.first (run S p b.first)
     → IsSpot S bs (record { bucket = n; passed = p; before = before })
 spot_found S bs n p before b within is inside last = record {
   within = omega (arith, inside);
@@ -228,10 +246,12 @@ spot_found S bs n p before b within is inside last = record {
       last ∙ sym (link-here S bs n (p - 1) b within is ∙ ap (λ q. last_or b.first (run S q b.first)) one);
 }
 
-pub links_there : {X : Type 0} (rank : X → ℤ) (S : Links X) (bs : List Bucket) (n p : ℕ) (b : Bucket) → n < length bs → b ≡ get_or bs n b → p < count_at bs n → AreBuckets rank S bs → AreThere S (run S p b.first)
+pub links_there : {X : Type 0} (rank : X → ℤ) (S : Links X) (bs : List Bucket) (n p : ℕ) (b : Bucket) → n < length bs → b ≡ get_or bs n b
+    → p < count_at bs n → AreBuckets rank S bs → AreThere S (run S p b.first)
 links_there rank S bs n p b within is inside are =
     (led_upto S p b.count b.first (omega (arith, inside, count-here bs n b within is)) (run_there S bs n b within is (led_of rank S bs are))).leads
 
 -- how many are left behind a place
-pub fewer_left : (bs : List Bucket) (n p : ℕ) (b : Bucket) → n < length bs → b ≡ get_or bs n b → b.count ≤ p → p < total (drop n bs) → p - b.count < total (drop (suc n) bs)
+pub fewer_left : (bs : List Bucket) (n p : ℕ) (b : Bucket) → n < length bs → b ≡ get_or bs n b → b.count ≤ p → p < total (drop n bs) → p
+    - b.count < total (drop (suc n) bs)
 fewer_left bs n p b within is upto left = omega (arith, total_from bs n, count-here bs n b within is, upto, left)

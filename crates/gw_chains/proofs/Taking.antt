@@ -1,17 +1,20 @@
 -- Members in buckets: what is left where one has left from any place.
-use Rattle.std.proofs.Common.{◌≡◌, ◌≢◌, ◌∙◌, ℕ, ℤ, zero, suc, ◌+◌, ◌-◌, ◌<◌, ◌≤◌, List, [], ◌∷◌, ◌++◌, length, get_or, Option, Some, None, Bool, true, false, if◌then◌else◌, refl, sym, ap, subst, arith, append_assoc, length-append, inl, inr}
+use Rattle.std.proofs.Common.{◌≡◌, ◌≢◌, ◌∙◌, ℕ, ℤ, zero, suc, ◌+◌, ◌-◌, ◌<◌, ◌≤◌, List, [], ◌∷◌, ◌++◌, length, get_or, Option, Some, None, Bool, true}
+use Rattle.std.proofs.Common.{false, if◌then◌else◌, refl, sym, ap, subst, arith, append_assoc, length-append, inl, inr}
 use Rattle.std.proofs.lemmas.Bool.{cases_eq}
 use Rattle.std.proofs.lemmas.Grind.{common_steps}
 use Rattle.std.specs.Prelude.{All, AllPairs, nat_le, nat_lt, ◌==◌, ◌&&◌, remove, slice_get}
 use Rattle.std.specs.List.{AllByRecursion}
 use Rattle.std.proofs.lemmas.List.Elements.{All-head, All-tail, All-cons}
-use Rattle.gw_chains.specs.Buckets.{once, times, last_or, Links, run, links_of, member_at, members_at, members_of, total, one_if_there, linked_to, Before, IsBucket, AreBuckets}
+use Rattle.gw_chains.specs.Buckets.{once, times, last_or, Links, run, links_of, member_at, members_at, members_of, total, one_if_there, linked_to}
+use Rattle.gw_chains.specs.Buckets.{Before, IsBucket, AreBuckets}
 use Rattle.gw_chains.specs.Spots.{count_at, place_at, link_at, AreThere, IsSpot, led_past, without_one, without_link}
 use Rattle.gw_chains.specs.declared.bucket.Bucket.{Bucket}
 use Rattle.gw_chains.specs.declared.bucket.Link.{Link}
 use Rattle.gw_chains.specs.declared.spot.Spot.{Spot}
 use Rattle.gw_chains.proofs.Places.{pairs_cons, pairs_first, pairs_rest}
-use Rattle.gw_chains.proofs.Linking.{once-same, once-other, times-append, some_of, Alike, run-same, links-same, members-same, members-append, bucket-same, buckets-same, member_kept, there_kept, AreLed, led_back, led_front}
+use Rattle.gw_chains.proofs.Linking.{once-same, once-other, times-append, some_of, Alike, run-same, links-same, members-same, members-append}
+use Rattle.gw_chains.proofs.Linking.{bucket-same, buckets-same, member_kept, there_kept, AreLed, led_back, led_front}
 use Rattle.gw_chains.proofs.Joining.{led_of}
 use Rattle.gw_chains.proofs.Spotting.{filled, place_first, link-first, link_within}
 use Rattle.gw_chains.proofs.Unlinking.{middle, all_without, run_length, led_upto, parted, Passed, left_run, left_before, left_last}
@@ -63,21 +66,25 @@ module _ {X : Type 0} (S : Links X) (p : ℕ) (l : Link X) where
         place = omega (arith, later.place, length-append here later.front, run_length S b.count b.first led_here.leads);
       }
 
-pub stands_there : {X : Type 0} (rank : X → ℤ) (S : Links X) (bs : List Bucket) (s : Spot) (l : Link X) → AreBuckets rank S bs → s.passed < count_at bs s.bucket → S (link_at S bs s.bucket s.passed) ≡ Some l → slice_get (members_of S bs) (place_at bs s.bucket s.passed) ≡ Some l.member
+pub stands_there : {X : Type 0} (rank : X → ℤ) (S : Links X) (bs : List Bucket) (s : Spot) (l : Link X) → AreBuckets rank S bs → s.passed
+    < count_at bs s.bucket → S (link_at S bs s.bucket s.passed) ≡ Some l → slice_get (members_of S bs) (place_at bs s.bucket s.passed) ≡ Some l.member
 stands_there rank S bs s l are inside is =
     let led = led_of rank S bs are in
     let here = link_at S bs s.bucket s.passed in
     let found = stands S s.passed l bs s.bucket led inside is in
     let shown : members_of S bs ≡ members_at S found.front ++ l.member ∷ members_at S found.back =
-    ap (members_at S) found.links ∙ members-append S found.front (here ∷ found.back) ∙ ap (λ o. members_at S found.front ++ (member_at o ++ members_at S found.back)) is in
+    ap (members_at S) found.links ∙ members-append S found.front (here ∷ found.back)
+    ∙ ap (λ o. members_at S found.front ++ (member_at o ++ members_at S found.back)) is in
     let place : length (members_at S found.front) ≡ place_at bs s.bucket s.passed =
-    members_length S found.front (λ i some. led.leads i (omega (arith, some, ap (times i) found.links, times-append i found.front (here ∷ found.back)))) ∙ found.place in
+    members_length S found.front
+    (λ i some. led.leads i (omega (arith, some, ap (times i) found.links, times-append i found.front (here ∷ found.back)))) ∙ found.place in
     ap (λ n. slice_get (members_of S bs) n) (sym place)
     ∙ ap (λ es. slice_get es (length (members_at S found.front))) shown
     ∙ middle (members_at S found.front) l.member (members_at S found.back)
 
 -- the first of all stands at the first link of the first bucket
-pub stands_first : {X : Type 0} (rank : X → ℤ) (S : Links X) (bs : List Bucket) (b : Bucket) (l : Link X) → AreBuckets rank S bs → 0 < length bs → b ≡ get_or bs 0 b → S b.first ≡ Some l → slice_get (members_of S bs) 0 ≡ Some l.member
+pub stands_first : {X : Type 0} (rank : X → ℤ) (S : Links X) (bs : List Bucket) (b : Bucket) (l : Link X) → AreBuckets rank S bs → 0
+    < length bs → b ≡ get_or bs 0 b → S b.first ≡ Some l → slice_get (members_of S bs) 0 ≡ Some l.member
 stands_first rank S bs b l are some is there =
     let s : Spot = record { bucket = 0; passed = 0; before = 0 } in
     ap (λ n. slice_get (members_of S bs) n) (sym (place_first bs 0))
@@ -99,7 +106,8 @@ module _ {X : Type 0} (rank : X → ℤ) (S U T : Links X) (s : Spot) (j : ℕ) 
   leads_on : 0 < s.passed → s.before ≢ j → T s.before ≡ linked_to l.next (S s.before)
   leads_on some other = led_on s.before ∙ by_test (nat_lt 0 s.passed) (s.before == s.before) refl refl ∙ ap (linked_to l.next) (others s.before other)
     where
-      by_test : (t u : Bool) → nat_lt 0 s.passed ≡ t → (s.before == s.before) ≡ u → (if t && u then linked_to l.next (U s.before) else U s.before) ≡ linked_to l.next (U s.before)
+      by_test : (t u : Bool) → nat_lt 0 s.passed ≡ t → (s.before == s.before) ≡ u
+          → (if t && u then linked_to l.next (U s.before) else U s.before) ≡ linked_to l.next (U s.before)
       by_test true true positive same = refl
       by_test true false positive same = absurd (grind (arith, common_steps))
       by_test false u positive same = absurd (grind (arith, common_steps))
@@ -139,8 +147,10 @@ module _ {X : Type 0} (rank : X → ℤ) (S U T : Links X) (s : Spot) (j : ℕ) 
     pub before : 0 < s.passed → s.before ≡ link_at T ws n (s.passed - 1)
 
   -- at a spot of the first bucket
-  module _ (b : Bucket) (bs : List Bucket) (led : AreLed S (links_of S (b ∷ bs))) (each : AllByRecursion (IsBucket rank S) (b ∷ bs)) (inside : s.passed < b.count)
-      (link : j ≡ last_or b.first (run S (suc s.passed) b.first)) (before : 0 < s.passed → s.before ≡ last_or b.first (run S (suc (s.passed - 1)) b.first)) where
+  module _ (b : Bucket) (bs : List Bucket) (led : AreLed S (links_of S (b ∷ bs))) (each : AllByRecursion (IsBucket rank S) (b ∷ bs))
+      (inside : s.passed < b.count)
+      (link : j ≡ last_or b.first (run S (suc s.passed) b.first))
+      (before : 0 < s.passed → s.before ≡ last_or b.first (run S (suc (s.passed - 1)) b.first)) where
     abbrev p : ℕ
     p = s.passed
 
@@ -230,7 +240,8 @@ module _ {X : Type 0} (rank : X → ℤ) (S U T : Links X) (s : Spot) (j : ℕ) 
 
     members_left : members_at T (front ++ back) ≡ members_at S front ++ members_at S back
     members_left =
-        members-same S T (front ++ back) (λ k some. kept k (λ same. absurd (omega (arith, some, times-append k front back, led.single k, counted k, once-same k j (sym same)))))
+        members-same S T (front ++ back)
+        (λ k some. kept k (λ same. absurd (omega (arith, some, times-append k front back, led.single k, counted k, once-same k j (sym same)))))
         ∙ members-append S front back
 
     members_before : members_at S (run S b.count b.first) ≡ members_at S front ++ l.member ∷ members_at S back
@@ -253,7 +264,8 @@ module _ {X : Type 0} (rank : X → ℤ) (S U T : Links X) (s : Spot) (j : ℕ) 
               some = omega (arith, several);
               last = ap (last_or (if p == 0 then l.next else b.first)) left ∙ left_last S T b s.before l p inside several passed ends;
               alike = subst (AllByRecursion (λ (y : X). rank y ≡ b.rank)) (sym (ap (members_at T) left ∙ members_left))
-                  (all_without (λ (y : X). rank y ≡ b.rank) (members_at S front) l.member (members_at S back) (subst (AllByRecursion (λ (y : X). rank y ≡ b.rank)) members_before each.0.alike));
+                  (all_without (λ (y : X). rank y ≡ b.rank) (members_at S front) l.member (members_at S back)
+                  (subst (AllByRecursion (λ (y : X). rank y ≡ b.rank)) members_before each.0.alike));
             },
             buckets-same rank S T bs alike_rest each.1,
           );
@@ -270,19 +282,30 @@ module _ {X : Type 0} (rank : X → ℤ) (S U T : Links X) (s : Spot) (j : ℕ) 
         by_test false many = shortened many
 
   -- at a spot of a later bucket
-  taken_later : (b : Bucket) (bs ws : List Bucket) (n : ℕ) → AreLed S (links_of S (b ∷ bs)) → AllByRecursion (IsBucket rank S) (b ∷ bs) → (0 < s.passed → 0 < times s.before (links_of S bs)) → Taken bs ws n → Taken (b ∷ bs) (b ∷ ws) (suc n)
+  taken_later : (b : Bucket) (bs ws : List Bucket) (n : ℕ) → AreLed S (links_of S (b ∷ bs)) → AllByRecursion (IsBucket rank S) (b ∷ bs)
+      → (0 < s.passed → 0 < times s.before (links_of S bs)) → Taken bs ws n → Taken (b ∷ bs) (b ∷ ws) (suc n)
   taken_later b bs ws n led each before_in taken =
       let here = run S b.count b.first in
       let led_here = led_front S here (links_of S bs) led in
       let alike : Alike S T here =
       λ k some. apart k
-      (λ same. absurd (omega (arith, some, led.single k, times-append k here (links_of S bs), ap (times k) taken.was, times-append k taken.front (j ∷ taken.back), once-same k j (sym same))))
-      (λ positive same. absurd (omega (arith, some, led.single k, times-append k here (links_of S bs), subst (λ i. 0 < times i (links_of S bs)) (sym same) (before_in positive)))) in
+      (λ same. absurd (omega (
+        arith,
+        some,
+        led.single k,
+        times-append k here (links_of S bs),
+        ap (times k) taken.was,
+        times-append k taken.front (j ∷ taken.back),
+        once-same k j (sym same),
+      )))
+      (λ positive same. absurd
+      (omega (arith, some, led.single k, times-append k here (links_of S bs), subst (λ i. 0 < times i (links_of S bs)) (sym same) (before_in positive)))) in
       record {
         front = here ++ taken.front;
         back = taken.back;
         was = ap (λ zs. here ++ zs) taken.was ∙ sym (append_assoc here taken.front (j ∷ taken.back));
-        now = ap (λ zs. zs ++ links_of T ws) (run-same S T b.count b.first alike) ∙ ap (λ zs. here ++ zs) taken.now ∙ sym (append_assoc here taken.front taken.back);
+        now = ap (λ zs. zs ++ links_of T ws) (run-same S T b.count b.first alike) ∙ ap (λ zs. here ++ zs) taken.now
+            ∙ sym (append_assoc here taken.front taken.back);
         place = omega (arith, taken.place, length-append here taken.front, run_length S b.count b.first led_here.leads);
         stays = ap (λ m. b.count + m) taken.stays;
         each = (bucket-same rank S T b alike each.0, taken.each);
@@ -291,7 +314,8 @@ module _ {X : Type 0} (rank : X → ℤ) (S U T : Links X) (s : Spot) (j : ℕ) 
         before = taken.before;
       }
 
-  taken : (bs : List Bucket) (n : ℕ) → AreLed S (links_of S bs) → AllByRecursion (IsBucket rank S) bs → s.passed < count_at bs n → j ≡ link_at S bs n s.passed → (0 < s.passed → s.before ≡ link_at S bs n (s.passed - 1)) → Taken bs (without_link s l.next bs n) n
+  taken : (bs : List Bucket) (n : ℕ) → AreLed S (links_of S bs) → AllByRecursion (IsBucket rank S) bs → s.passed < count_at bs n → j
+      ≡ link_at S bs n s.passed → (0 < s.passed → s.before ≡ link_at S bs n (s.passed - 1)) → Taken bs (without_link s l.next bs n) n
   taken [] n led each inside link before = absurd (omega (arith, inside))
   taken (b ∷ bs) zero led each inside link before = taken_here b bs led each inside link before
   taken (b ∷ bs) (suc n) led each inside link before =
@@ -307,7 +331,8 @@ module _ {X : Type 0} (rank : X → ℤ) (S U T : Links X) (s : Spot) (j : ℕ) 
       by_test : (t : Bool) → All (Before a) (if t then bs else without_one s l.next b ∷ bs)
       by_test true = All-tail (Before a) b bs all
       by_test false = All-cons (Before a) (without_one s l.next b) bs (All-head (Before a) b bs all) (All-tail (Before a) b bs all)
-  all_left a (b ∷ bs) (suc n) all = All-cons (Before a) b (without_link s l.next bs n) (All-head (Before a) b bs all) (all_left a bs n (All-tail (Before a) b bs all))
+  all_left a (b ∷ bs) (suc n) all =
+      All-cons (Before a) b (without_link s l.next bs n) (All-head (Before a) b bs all) (all_left a bs n (All-tail (Before a) b bs all))
 
   order_left : (bs : List Bucket) (n : ℕ) → AllPairs Before bs → AllPairs Before (without_link s l.next bs n)
   order_left [] n order = order
@@ -327,17 +352,22 @@ module _ {X : Type 0} (rank : X → ℤ) (S U T : Links X) (s : Spot) (j : ℕ) 
     pub spot : IsSpot T ws s
     pub place : place_at ws s.bucket s.passed ≡ place_at bs s.bucket s.passed
 
-  pub unlinked_at : (bs : List Bucket) → AreBuckets rank S bs → IsSpot S bs s → s.passed < count_at bs s.bucket → j ≡ link_at S bs s.bucket s.passed → Unlinked bs (without_link s l.next bs s.bucket)
+  pub unlinked_at : (bs : List Bucket) → AreBuckets rank S bs → IsSpot S bs s → s.passed < count_at bs s.bucket → j
+      ≡ link_at S bs s.bucket s.passed → Unlinked bs (without_link s l.next bs s.bucket)
   unlinked_at bs are spot inside link =
       let led = led_of rank S bs are in
       let done = taken bs s.bucket led are.each inside link spot.before in
-      let counted : (i : ℕ) → times i (links_of S bs) ≡ times i done.front + (once i j + times i done.back) = λ i. omega (arith, ap (times i) done.was, times-append i done.front (j ∷ done.back)) in
+      let counted : (i : ℕ) → times i (links_of S bs) ≡ times i done.front + (once i j + times i done.back) =
+      λ i. omega (arith, ap (times i) done.was, times-append i done.front (j ∷ done.back)) in
       let shown : members_of S bs ≡ members_at S done.front ++ l.member ∷ members_at S done.back =
-      ap (members_at S) done.was ∙ members-append S done.front (j ∷ done.back) ∙ ap (λ o. members_at S done.front ++ (member_at o ++ members_at S done.back)) is in
-      let place : length (members_at S done.front) ≡ place_at bs s.bucket s.passed = members_length S done.front (λ i some. led.leads i (omega (arith, some, counted i))) ∙ done.place in
+      ap (members_at S) done.was ∙ members-append S done.front (j ∷ done.back)
+      ∙ ap (λ o. members_at S done.front ++ (member_at o ++ members_at S done.back)) is in
+      let place : length (members_at S done.front) ≡ place_at bs s.bucket s.passed =
+      members_length S done.front (λ i some. led.leads i (omega (arith, some, counted i))) ∙ done.place in
       let left : members_of T (without_link s l.next bs s.bucket) ≡ members_at S done.front ++ members_at S done.back =
       ap (members_at T) done.now
-      ∙ members-same S T (done.front ++ done.back) (λ k some. kept k (λ same. absurd (omega (arith, some, times-append k done.front done.back, led.single k, counted k, once-same k j (sym same)))))
+      ∙ members-same S T (done.front ++ done.back)
+      (λ k some. kept k (λ same. absurd (omega (arith, some, times-append k done.front done.back, led.single k, counted k, once-same k j (sym same)))))
       ∙ members-append S done.front done.back in
       record {
         members =
@@ -354,7 +384,15 @@ module _ {X : Type 0} (rank : X → ℤ) (S U T : Links X) (s : Spot) (j : ℕ) 
             | inl same ↦
                 let empty : one_if_there (T i) ≡ 0 = ap one_if_there (ap T same ∙ unlinked) in
                 omega (arith, ap (times i) done.now, times-append i done.front done.back, led.single i, counted i, once-same i j (sym same), empty)
-            | inr other ↦ omega (arith, ap (times i) done.now, times-append i done.front done.back, are.owned i, counted i, still_there i other, once-other i j (λ clash. other (sym clash)))
+            | inr other ↦ omega (
+              arith,
+              ap (times i) done.now,
+              times-append i done.front done.back,
+              are.owned i,
+              counted i,
+              still_there i other,
+              once-other i j (λ clash. other (sym clash)),
+            )
           ];
         };
         many = done.many;

@@ -1,5 +1,6 @@
 -- Members in buckets: one leaves from any place.
-use Rattle.std.proofs.Common.{◌≡◌, ◌≢◌, ◌∙◌, ℕ, zero, suc, ◌+◌, ◌-◌, ◌<◌, ◌≤◌, List, [], ◌∷◌, ◌++◌, length, Option, Some, None, Bool, true, false, if◌then◌else◌, refl, sym, ap, subst, arith, append_assoc}
+use Rattle.std.proofs.Common.{◌≡◌, ◌≢◌, ◌∙◌, ℕ, zero, suc, ◌+◌, ◌-◌, ◌<◌, ◌≤◌, List, [], ◌∷◌, ◌++◌, length, Option, Some, None, Bool, true, false}
+use Rattle.std.proofs.Common.{if◌then◌else◌, refl, sym, ap, subst, arith, append_assoc}
 use Rattle.std.proofs.lemmas.Grind.{common_steps}
 use Rattle.std.specs.Prelude.{◌==◌, slice_get}
 use Rattle.std.specs.List.{AllByRecursion}
@@ -31,7 +32,8 @@ module _ {X : Type 0} (S : Links X) where
       let more : suc (a + c) ≡ suc a + c = omega arith in
       subst (λ n. times i (run S (suc a) k) ≤ times i (run S n k)) more (by_case (S k) (λ m. run_grows a c m i))
     where
-      by_case : (o : Option (Link X)) → ((m : ℕ) → times i (run S a m) ≤ times i (run S (a + c) m)) → times i (k ∷ links_behind o (run S a)) ≤ times i (k ∷ links_behind o (run S (a + c)))
+      by_case : (o : Option (Link X)) → ((m : ℕ) → times i (run S a m) ≤ times i (run S (a + c) m))
+          → times i (k ∷ links_behind o (run S a)) ≤ times i (k ∷ links_behind o (run S (a + c)))
       by_case None later = omega arith
       by_case (Some l) later = omega (arith, later l.next)
 
@@ -72,11 +74,14 @@ module _ {X : Type 0} (S : Links X) where
   pub led_upto : (n m k : ℕ) → n ≤ m → AreLed S (run S m k) → AreLed S (run S n k)
   led_upto n m k upto led =
       let whole : n + (m - n) ≡ m = omega (arith, upto) in
-      let grows : (i : ℕ) → times i (run S n k) ≤ times i (run S m k) = λ i. subst (λ c. times i (run S n k) ≤ times i (run S c k)) whole (run_grows n (m - n) k i) in
+      let grows : (i : ℕ) → times i (run S n k) ≤ times i (run S m k) =
+      λ i. subst (λ c. times i (run S n k) ≤ times i (run S c k)) whole (run_grows n (m - n) k i) in
       record { leads = λ i some. led.leads i (omega (arith, some, grows i)); single = λ i. omega (arith, led.single i, grows i) }
 
 -- a run whose last leads elsewhere
-run_past : {X : Type 0} (S T : Links X) (before next : ℕ) → T before ≡ linked_to next (S before) → (n m k : ℕ) → last_or k (run S (suc n) k) ≡ before → ((i : ℕ) → 0 < times i (run S (suc n) k) → i ≢ before → T i ≡ S i) → AreLed S (run S (suc n) k) → run T (suc (n + m)) k ≡ run S (suc n) k ++ run T m next
+run_past : {X : Type 0} (S T : Links X) (before next : ℕ) → T before ≡ linked_to next (S before) → (n m k : ℕ)
+    → last_or k (run S (suc n) k) ≡ before → ((i : ℕ) → 0 < times i (run S (suc n) k) → i ≢ before → T i ≡ S i)
+    → AreLed S (run S (suc n) k) → run T (suc (n + m)) k ≡ run S (suc n) k ++ run T m next
 run_past S T before next leads_on zero m k ends others led =
     let s = some_of (S k) (led.leads k (first_in_run S 1 k (omega arith))) in
     let is : k ≡ before = sym (ap (last_or k) (run_one S k)) ∙ ends in
@@ -92,7 +97,8 @@ run_past S T before next leads_on (suc n) m k ends others led =
     let within : 0 < times before tail = last_in_run S (suc n) y before (omega arith) later in
     let inner : k ≢ before = λ same. absurd (omega (arith, once-same before k same, led.single before, ap (times before) step, within)) in
     let new : T k ≡ Some s.0 = others k (first_in_run S (suc (suc n)) k (omega arith)) inner ∙ s.1 in
-    let led_tail : AreLed S tail = record { leads = λ i some. led.leads i (omega (arith, some, ap (times i) step)); single = λ i. omega (arith, led.single i, ap (times i) step) } in
+    let led_tail : AreLed S tail =
+    record { leads = λ i some. led.leads i (omega (arith, some, ap (times i) step)); single = λ i. omega (arith, led.single i, ap (times i) step) } in
     let rest = run_past S T before next leads_on n m y later (λ i some other. others i (omega (arith, some, ap (times i) step)) other) led_tail in
     let same : suc n + m ≡ suc (n + m) = omega arith in
     run_some T (suc n + m) k s.0 new ∙ ap (λ zs. k ∷ zs) (ap (λ c. run T c y) same ∙ rest) ∙ sym (ap (λ zs. zs ++ run T m next) step)
@@ -165,10 +171,12 @@ module _ {X : Type 0} (S T : Links X) (b : Bucket) (before : ℕ) (l : Link X) w
       ∙ run_past S T before l.next (passed.on (omega arith)) q 0 b.first (sym (passed.is (omega arith))) passed.others passed.led
       ∙ append_none (run S (suc q) b.first) in
       let one : suc (suc q - 1) ≡ suc q = omega arith in
-      passed.is (omega arith) ∙ sym (ap (λ k. last_or k (run T (suc (suc q - 1)) k)) (head_more q) ∙ ap (λ n. last_or b.first (run T n b.first)) one ∙ ap (last_or b.first) same)
+      passed.is (omega arith) ∙ sym
+      (ap (λ k. last_or k (run T (suc (suc q - 1)) k)) (head_more q) ∙ ap (λ n. last_or b.first (run T n b.first)) one ∙ ap (last_or b.first) same)
 
   -- the last of those that are left
-  pub left_last : (p : ℕ) → p < b.count → 1 < b.count → Passed p → (last_or b.first (run S p b.first ++ last_or b.first (run S (suc p) b.first) ∷ run S (b.count - suc p) l.next) ≡ b.last)
+  pub left_last : (p : ℕ) → p < b.count → 1 < b.count → Passed p
+      → (last_or b.first (run S p b.first ++ last_or b.first (run S (suc p) b.first) ∷ run S (b.count - suc p) l.next) ≡ b.last)
       → last_or (head p) (run S p b.first ++ run S (b.count - suc p) l.next) ≡ (if p + 1 == b.count then before else b.last)
   left_last p inside several passed ends = by_test (p + 1 == b.count) refl
     where

@@ -36,7 +36,8 @@ first_link S (b ∷ bs) (suc n) = first_link S bs n
 -- WALKS
 
 -- a walk at the first of a bucket, or at the end of all
-pub walk_begun : {X : Type 0} (S : Links X) (bs : List Bucket) (w : Walk) (n : ℕ) → AreFilled bs → w.spot.bucket ≡ n → w.spot.passed ≡ 0 → w.here ≡ first_at bs n → w.left ≡ count_at bs n → IsWalk S bs w
+pub walk_begun : {X : Type 0} (S : Links X) (bs : List Bucket) (w : Walk) (n : ℕ) → AreFilled bs → w.spot.bucket ≡ n → w.spot.passed ≡ 0
+    → w.here ≡ first_at bs n → w.left ≡ count_at bs n → IsWalk S bs w
 walk_begun S bs w n each at none here left = record {
   spot = spot_first S bs w.spot none;
   settled = settled_first bs w.spot each none;
@@ -49,7 +50,8 @@ walk_begun S bs w n each at none here left = record {
 }
 
 -- a walk at a spot that is not at the end of its bucket
-pub walk_there : {X : Type 0} (S : Links X) (bs : List Bucket) (s : Spot) (b : Bucket) (here : ℕ) → IsSpot S bs s → IsSettled bs s → s.bucket < length bs → b ≡ get_or bs s.bucket b → here ≡ link_at S bs s.bucket s.passed
+pub walk_there : {X : Type 0} (S : Links X) (bs : List Bucket) (s : Spot) (b : Bucket) (here : ℕ) → IsSpot S bs s → IsSettled bs s
+    → s.bucket < length bs → b ≡ get_or bs s.bucket b → here ≡ link_at S bs s.bucket s.passed
     → IsWalk S bs (record { spot = s; here = here; left = b.count - s.passed })
 walk_there S bs s b here spot settled within is link = record {
   spot = spot;
@@ -59,7 +61,8 @@ walk_there S bs s b here spot settled within is link = record {
 }
 
 -- a walk goes on in a bucket
-pub walk_on : {X : Type 0} (rank : X → ℤ) (S : Links X) (bs : List Bucket) (w : Walk) (l : Link X) → AreBuckets rank S bs → IsWalk S bs w → 1 < w.left → S w.here ≡ Some l
+pub walk_on : {X : Type 0} (rank : X → ℤ) (S : Links X) (bs : List Bucket) (w : Walk) (l : Link X) → AreBuckets rank S bs → IsWalk S bs w
+    → 1 < w.left → S w.here ≡ Some l
     → IsWalk S bs (record { spot = record { bucket = w.spot.bucket; passed = w.spot.passed + 1; before = w.here }; here = l.next; left = w.left - 1 })
 walk_on rank S bs w l are walk more is =
     let p = w.spot.passed in
@@ -79,7 +82,8 @@ walk_on rank S bs w l are walk more is =
     }
 
 -- it goes on to the first of the next bucket
-pub place_begun : (bs : List Bucket) (s t : Spot) → s.passed + 1 ≡ count_at bs s.bucket → t.bucket ≡ s.bucket + 1 → t.passed ≡ 0 → place_at bs t.bucket t.passed ≡ place_at bs s.bucket s.passed + 1
+pub place_begun : (bs : List Bucket) (s t : Spot) → s.passed + 1 ≡ count_at bs s.bucket → t.bucket ≡ s.bucket + 1 → t.passed ≡ 0
+    → place_at bs t.bucket t.passed ≡ place_at bs s.bucket s.passed + 1
 place_begun bs s t ends next none =
     let c = s.passed + 1 in
     let one : t.bucket ≡ suc s.bucket = omega (arith, next) in

@@ -1,5 +1,6 @@
 -- A list that is kept in chunks: queues of fewer than a number of elements, one behind the other, none of them empty.
-use Rattle.std.specs.Prelude.{◌≡◌, ◌<◌, ◌≤◌, ◌⊎◌, ℕ, ◌+◌, ◌-◌, ◌^◌, min, List, [], ◌∷◌, ◌++◌, length, take, drop, slice_index_or, option_to_list, Option, Some, None, Bool, false}
+use Rattle.std.specs.Prelude.{◌≡◌, ◌<◌, ◌≤◌, ◌⊎◌, ℕ, ◌+◌, ◌-◌, ◌^◌, min, List, [], ◌∷◌, ◌++◌, length, take, drop, slice_index_or, option_to_list}
+use Rattle.std.specs.Prelude.{Option, Some, None, Bool, false}
 use Rattle.std.specs.Borrow.{Bor}
 use Rattle.std.specs.Option.{option_copied}
 use Rattle.std.specs.VecDeque.{deque_len, deque_capacity}
@@ -40,7 +41,8 @@ module _ {X Z : Type 0} where
   -- the elements of chunks stay as they were but for those of the chunk at a place, to which f is done
   abbrev pub ChangesChunk : ℕ → (List X → List X) → VecDeque (VecDeque X Z) Z → VecDeque (VecDeque X Z) Z → Type 0
   ChangesChunk place f old new =
-      (d : VecDeque X Z) → all_of new.items ≡ all_of (take place old.items) ++ (f (slice_index_or old.items place d).items ++ all_of (drop (place + 1) old.items))
+      (d : VecDeque X Z) → all_of new.items ≡ all_of (take place old.items)
+      ++ (f (slice_index_or old.items place d).items ++ all_of (drop (place + 1) old.items))
 
   -- fewer chunks than so many more fit with no allocation, or there are fewer spare ones
   abbrev pub LacksChunks : ℕ → VecDeque (VecDeque X Z) Z → List (VecDeque X Z) → Type 0

@@ -1,5 +1,6 @@
 -- The least and the greatest of what stands, as a run goes on.
-use Rattle.std.proofs.Common.{◌≡◌, ◌<◌, ◌+◌, ℕ, zero, suc, ℤ, ◌≤ℤ◌, ◌<ℤ◌, Bool, true, false, cond, List, [], ◌∷◌, length, map, arith, refl, sym, ap, ◌∙◌, subst, inl, inr}
+use Rattle.std.proofs.Common.{◌≡◌, ◌<◌, ◌+◌, ℕ, zero, suc, ℤ, ◌≤ℤ◌, ◌<ℤ◌, Bool, true, false, cond, List, [], ◌∷◌, length, map, arith, refl, sym, ap}
+use Rattle.std.proofs.Common.{◌∙◌, subst, inl, inr}
 use Rattle.std.specs.Prelude.{int_lt}
 use Rattle.std.specs.Int.{int_min, int_max}
 use Rattle.std.proofs.lemmas.Int.{ints, by_lt_z, int_min_is, int_max_is}
@@ -32,7 +33,8 @@ stood_once j time a b x y =
         | inl more ↦ absurd (not_both time y.state y.over (x.first y.steps y.state (omega arith) more y.alone))
         | inr not_more ↦
             let steps : x.steps ≡ y.steps = omega (arith, not_less, not_more) in
-            x.contents ∙ ap (λ (s : State). contents_from s 0 j.parts.entities) (one_state j x.steps y.steps x.state y.state steps x.alone y.alone) ∙ sym y.contents
+            x.contents ∙ ap (λ (s : State). contents_from s 0 j.parts.entities)
+            (one_state j x.steps y.steps x.state y.state steps x.alone y.alone) ∙ sym y.contents
       ]
     ]
   where
@@ -103,7 +105,15 @@ band_lasts j from time later e band row begun order here lasting h =
     record {
       covered = λ value k. by_lt_z time k.time (λ past.
           let same : k.row ≡ row = stood_once j k.time k.row row k.stood (lasting k.time (omega (arith, ints, past)) k.most) in
-          h.covered value (record { time = time; least = begun; most = omega (arith, ints); row = row; stood = here; value_is = ap (λ r. value_in r e) (sym same) ∙ k.value_is }))
+          h.covered value (record {
+            time = time;
+            least = begun;
+            most = omega (arith, ints);
+            row = row;
+            stood = here;
+            value_is =
+                ap (λ r. value_in r e) (sym same) ∙ k.value_is;
+          }))
           (λ before. h.covered value (record { time = k.time; least = k.least; most = before; row = k.row; stood = k.stood; value_is = k.value_is }));
       least = stood_within j from time later e band.least order h.least;
       greatest = stood_within j from time later e band.greatest order h.greatest;
@@ -119,7 +129,15 @@ band_widens j from time next e band row more begun order here lasting stood h =
           (λ before. wider value (by_lt_z time k.time
           (λ past.
           let same : k.row ≡ row = stood_once j k.time k.row row k.stood (lasting k.time (omega (arith, ints, past)) before) in
-          h.covered value (record { time = time; least = begun; most = omega (arith, ints); row = row; stood = here; value_is = ap (λ r. value_in r e) (sym same) ∙ k.value_is }))
+          h.covered value (record {
+            time = time;
+            least = begun;
+            most = omega (arith, ints);
+            row = row;
+            stood = here;
+            value_is =
+                ap (λ r. value_in r e) (sym same) ∙ k.value_is;
+          }))
           (λ early. h.covered value (record { time = k.time; least = k.least; most = early; row = k.row; stood = k.stood; value_is = k.value_is }))))
           (λ there.
           let at : k.time ≡ next = omega (arith, ints, there, k.most) in
@@ -127,8 +145,10 @@ band_widens j from time next e band row more begun order here lasting stood h =
           let is : value_in more e ≡ value = ap (λ r. value_in r e) (sym same) ∙ k.value_is in
           subst (λ v. ((widen band (value_in more e)).least ≤ℤ v) × (v ≤ℤ (widen band (value_in more e)).greatest)) is
           (omega (arith, ints, int_min_is band.least (value_in more e)), omega (arith, ints, int_max_is band.greatest (value_in more e))));
-      least = least_of (HasStood j from next e) band.least (value_in more e) (stood_within j from time next e band.least (omega (arith, ints, order)) h.least) last;
-      greatest = greatest_of (HasStood j from next e) band.greatest (value_in more e) (stood_within j from time next e band.greatest (omega (arith, ints, order)) h.greatest) last;
+      least = least_of (HasStood j from next e) band.least (value_in more e)
+          (stood_within j from time next e band.least (omega (arith, ints, order)) h.least) last;
+      greatest = greatest_of (HasStood j from next e) band.greatest (value_in more e)
+          (stood_within j from time next e band.greatest (omega (arith, ints, order)) h.greatest) last;
     }
   where
     last : HasStood j from next e (value_in more e)
@@ -170,7 +190,8 @@ widened_count s k (x ∷ xs) (b ∷ bs) count =
     omega (arith, rest)
 
 -- what stands
-standing : (j : Job) (time : ℤ) (s : State) → Alone j s.steps s → IsOver time s → AreStillAt j time 0 s.steps → StoodAt j time (contents_from s 0 j.parts.entities)
+standing : (j : Job) (time : ℤ) (s : State) → Alone j s.steps s → IsOver time s → AreStillAt j time 0 s.steps
+    → StoodAt j time (contents_from s 0 j.parts.entities)
 standing j time s alone over still = record { steps = s.steps; state = s; alone = alone; over = over; first = still; contents = refl }
 
 pub looked_first : (j : Job) (from to : ℤ) (s : State) (bands : List Band) → from ≤ℤ to → Alone j s.steps s → IsOver from s → AreStillAt j from 0 s.steps
@@ -254,13 +275,15 @@ looked_on j from to s t bands h runs alone over =
     one j s t m n e a b = let there : Alone j n s = subst (λ (i : ℕ). Alone j i s) e a in cc
 
 -- the same for equal jobs
-pub looked_next : (j k l : Job) (from to at : ℤ) (s t : State) (bands more : List Band) → k ≡ j → l ≡ k → at ≡ s.clock → HasLooked j from to s bands → IsStillAt to s
+pub looked_next : (j k l : Job) (from to at : ℤ) (s t : State) (bands more : List Band) → k ≡ j → l ≡ k → at ≡ s.clock
+    → HasLooked j from to s bands → IsStillAt to s
     → Alone l t.steps t → IsOver at t → AreStillAt k at s.steps t.steps → more ≡ widened_from t 0 l.parts.entities bands
     → HasLooked j from to t more × s.steps < t.steps
 looked_next j k l from to at s t bands more same also here h runs alone over still are =
     let alone_too = subst (λ (i : Job). Alone i t.steps t) (also ∙ same) alone in
     let over_too = subst (λ (c : ℤ). IsOver c t) here over in
     let still_too = subst (λ (i : Job). AreStillAt i s.clock s.steps t.steps) same (subst (λ (c : ℤ). AreStillAt k c s.steps t.steps) here still) in (
-      looked_more j from to s t bands more h runs alone_too over_too still_too (subst (λ (i : Job). more ≡ widened_from t 0 i.parts.entities bands) (also ∙ same) are),
+      looked_more j from to s t bands more h runs alone_too over_too still_too
+          (subst (λ (i : Job). more ≡ widened_from t 0 i.parts.entities bands) (also ∙ same) are),
       looked_on j from to s t bands h runs alone_too over_too,
     )

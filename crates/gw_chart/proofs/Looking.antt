@@ -1,5 +1,6 @@
 -- What is seen of a run that has ended.
-use Rattle.std.proofs.Common.{◌≡◌, ◌≤◌, ◌<◌, ◌+◌, ◌*◌, ◌/◌, ◌-◌, ◌^◌, min, ◌++◌, ℕ, ℤ, ◌≤ℤ◌, Some, List, [], ◌∷◌, length, get_or, arith, refl, sym, ap, ◌∙◌, subst, below_more}
+use Rattle.std.proofs.Common.{◌≡◌, ◌≤◌, ◌<◌, ◌+◌, ◌*◌, ◌/◌, ◌-◌, ◌^◌, min, ◌++◌, ℕ, ℤ, ◌≤ℤ◌, Some, List, [], ◌∷◌, length, get_or, arith, refl, sym}
+use Rattle.std.proofs.Common.{ap, ◌∙◌, subst, below_more}
 use Rattle.std.proofs.lemmas.List.{get_or_append_left}
 use Rattle.std.specs.Prelude.{Result, Ok, Err, OnOk}
 use Rattle.std.proofs.lemmas.Int.{ints}
@@ -80,7 +81,8 @@ listed_more {X} P d n xs x count each last =
     at_end (y ∷ ys) = at_end ys
 
 -- bands of an equal job from and to equal times
-pub bands_of : (j k : Job) (from to first last : ℤ) (bands : List Band) → k ≡ j → first ≡ from → last ≡ to → AreBands k first last bands → AreBands j from to bands
+pub bands_of : (j k : Job) (from to first last : ℤ) (bands : List Band) → k ≡ j → first ≡ from → last ≡ to → AreBands k first last bands
+    → AreBands j from to bands
 bands_of j k from to first last bands same is also h =
     subst (λ (i : Job). AreBands i from to bands) same
     (subst (λ (t : ℤ). AreBands k from t bands) also (subst (λ (t : ℤ). AreBands k t last bands) is h))

@@ -1,5 +1,6 @@
 -- The classes of a table, as bars.
-use Rattle.std.specs.Prelude.{Bool, ℕ, ◌+◌, ◌-◌, ◌*◌, ◌/◌, ◌%◌, ℤ, pos, ◌+ℤ◌, min, List, [], ◌++◌, length, slice_index, codes, nat_lt, ◌||◌, ◌&&◌, ◌==◌, if◌then◌else◌}
+use Rattle.std.specs.Prelude.{Bool, ℕ, ◌+◌, ◌-◌, ◌*◌, ◌/◌, ◌%◌, ℤ, pos, ◌+ℤ◌, min, List, [], ◌++◌, length, slice_index, codes, nat_lt, ◌||◌, ◌&&◌}
+use Rattle.std.specs.Prelude.{◌==◌, if◌then◌else◌}
 use Rattle.gw_object.specs.declared.parts.Table.{Table}
 use Rattle.gw_chart.specs.declared.plot.Plot.{Plot}
 use Rattle.gw_drawing.specs.Numbers.{part_of_length, greatest}

@@ -19,7 +19,8 @@ pub record EndsAt (j : Job) (clock : ℤ) : Type 0 where
   pub final : IsFinal state
   pub clock_is : state.clock ≡ clock
 
--- the document of a window of the lone run of a job, under a name, by its last state, what stood in each entity at 500 moments of the window, and the least and the greatest of what stood between two of them
+-- the document of a window of the lone run of a job, under a name, by its last state, what stood in each entity at 500
+-- moments of the window, and the least and the greatest of what stood between two of them
 pub record IsChart (window : Window) (name : List ℕ) (j : Job) (text : List ℕ) : Type 0 where
   pub steps : ℕ
   pub state : State
@@ -31,7 +32,8 @@ pub record IsChart (window : Window) (name : List ℕ) (j : Job) (text : List �
   pub between : AreAllBands j (clip window state.clock) bands
   pub drawn : text ≡ document name (clip window state.clock) j.parts state rows bands
 
--- the records of a window of the lone run of a job, by what stood in each entity at 500 moments of the window, and the least and the greatest of what stood between two of them
+-- the records of a window of the lone run of a job, by what stood in each entity at 500 moments of the window, and the
+-- least and the greatest of what stood between two of them
 pub record IsSheet (window : Window) (j : Job) (text : List ℕ) : Type 0 where
   pub steps : ℕ
   pub state : State

@@ -11,7 +11,8 @@ use Rattle.gw_step.specs.Changes.{facility, storage, queue, switch, savevalue}
 abbrev pub count_value : ℕ → ℤ
 count_value count = pos (min count (2 ^ 63 - 1))
 
--- what is in the entity of a number, which is of this kind: 1 in a facility that is owned or a switch that is set, the units in a storage or a queue, the members of a user chain, the value of a savevalue
+-- what is in the entity of a number, which is of this kind: 1 in a facility that is owned or a switch that is set, the
+-- units in a storage or a queue, the members of a user chain, the value of a savevalue
 abbrev pub content_of : Kind → State → ℕ → ℤ
 content_of kinds.Facility s e = pos (from_bool (is_some (facility e s).owner))
 content_of (kinds.Storage capacity) s e = count_value (storage e s).contents.content

@@ -63,7 +63,8 @@ panel_below y inside = codes "<g transform=\"translate(0," ++ tenths y ++ codes 
 
 -- the panel of an entity, if its kind has one
 abbrev pub panel_of : Window → State → List (List ℤ) → List (List Band) → ℕ → ℕ → Entity → List ℕ
-panel_of w s rows bands y e entity = option_map_or (λ plot. panel_below y (panel_drawing entity.kind plot entity.name w s rows bands e)) (plot_of entity.kind) []
+panel_of w s rows bands y e entity =
+    option_map_or (λ plot. panel_below y (panel_drawing entity.kind plot entity.name w s rows bands e)) (plot_of entity.kind) []
 
 -- the same for the entity of a number
 abbrev pub panel_at : Window → State → List (List ℤ) → List (List Band) → List Entity → ℕ → List ℕ

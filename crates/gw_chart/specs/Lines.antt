@@ -1,5 +1,6 @@
 -- What is in an entity over time, as a line.
-use Rattle.std.specs.Prelude.{ℕ, ◌+◌, ◌-◌, ◌*◌, ◌/◌, max, nat_le, Bool, ◌||◌, ℤ, pos, int_lt, List, [], ◌++◌, slice_index_or, codes, if◌then◌else◌, Option, Some, None}
+use Rattle.std.specs.Prelude.{ℕ, ◌+◌, ◌-◌, ◌*◌, ◌/◌, max, nat_le, Bool, ◌||◌, ℤ, pos, int_lt, List, [], ◌++◌, slice_index_or, codes, if◌then◌else◌}
+use Rattle.std.specs.Prelude.{Option, Some, None}
 use Rattle.std.specs.Int.{div_ceil, int_min, int_max}
 use Rattle.std.specs.Ordering.{int_eq}
 use Rattle.std.specs.Option.{unwrap_or}

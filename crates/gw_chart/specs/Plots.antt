@@ -1,4 +1,5 @@
--- The plot of an entity: its axes, and what stands beside them. Places are in tenths of pixels: the plot lies from 80 to 700 from the left, and from 32 downwards in its panel.
+-- The plot of an entity: its axes, and what stands beside them. Places are in tenths of pixels: the plot lies from 80
+-- to 700 from the left, and from 32 downwards in its panel.
 use Rattle.std.specs.Prelude.{ℕ, ◌+◌, ◌-◌, ◌/◌, List, ◌++◌, ℤ, pos, int_lt, unsigned_abs, min, codes, Option, Some, None, if◌then◌else◌}
 use Rattle.gw_object.specs.declared.parts.Kind.{Kind}
 use Rattle.gw_object.specs.declared.parts.Kind.TheVariants as kinds

@@ -9,7 +9,8 @@ use Rattle.gw_chart.specs.Contents.{contents_from, value_in}
 use Rattle.gw_chart.specs.Bands.{band_in}
 use Rattle.gw_chart.specs.Windows.{moment}
 
--- what stood in each entity at a time: what is there in the first state of the lone run whose clock is past the time, or that has ended; where the clock moves nothing changes in entities
+-- what stood in each entity at a time: what is there in the first state of the lone run whose clock is past the time,
+-- or that has ended; where the clock moves nothing changes in entities
 pub record StoodAt (j : Job) (time : ℤ) (row : List ℤ) : Type 0 where
   pub steps : ℕ
   pub state : State

@@ -7,7 +7,8 @@ use Rattle.gw_chart.specs.declared.window.Window.{Window}
 abbrev pub clip : Window → ℤ → Window
 clip w end = record { from = min w.from (unsigned_abs end); to = min w.to (unsigned_abs end) }
 
--- the clock of a moment, by its number: the first is where a window begins, the last, 499, where it ends, and the others lie evenly between them; no clock is above 2^63 - 1
+-- the clock of a moment, by its number: the first is where a window begins, the last, 499, where it ends, and the
+-- others lie evenly between them; no clock is above 2^63 - 1
 abbrev pub moment : Window → ℕ → ℤ
 moment w i = pos (min (w.from + part_of_length (w.to - w.from) i 499) (2 ^ 63 - 1))
 

@@ -69,7 +69,13 @@ pub(crate) fn widen(bands: &mut Vec<Band>, sim: &Sim)
     ensures { bands.new.items
         ≡ model.widened_from sim.now.state 0 sim.now.job.parts.entities bands.old.items }
 {
-    let entities = sim.spec().verified_object().object().parts().entities.as_slice();
+    let entities = sim
+        .spec()
+        .verified_object()
+        .object()
+        .parts()
+        .entities
+        .as_slice();
     for i in 0..entities.len() {
         bands[i] = widened(bands[i], sim, i as u16, &entities[i].kind);
     }

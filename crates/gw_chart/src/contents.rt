@@ -36,7 +36,13 @@ pub(crate) fn content_of(sim: &Sim, number: u16, kind: &Kind) -> i64
 pub(crate) fn contents(alloc: Global, sim: &Sim) -> Result<Items<i64>, Memory>
     ensures { IfOk result (λ row. row ≡ contents_from sim.now.state 0 sim.now.job.parts.entities) }
 {
-    let entities = sim.spec().verified_object().object().parts().entities.as_slice();
+    let entities = sim
+        .spec()
+        .verified_object()
+        .object()
+        .parts()
+        .entities
+        .as_slice();
     let mut row = Vec::new(alloc);
     for i in 0..entities.len() {
         row.push(content_of(sim, i as u16, &entities[i].kind))?;

@@ -172,7 +172,13 @@ fn put_panel_at(
     requires { number < length sim.now.job.parts.entities }
     ensures { Puts result out.old out.new (views.panel_at window sim.now seen.now number) }
 {
-    let entities = sim.spec().verified_object().object().parts().entities.as_slice();
+    let entities = sim
+        .spec()
+        .verified_object()
+        .object()
+        .parts()
+        .entities
+        .as_slice();
     match entities.get(number as usize) {
         Some(entity) => {
             let y = begins_at(entities, number as usize);
@@ -212,7 +218,13 @@ pub(crate) fn put_document(
 ) -> Result<(), Memory>
     ensures { Puts result out.old out.new (views.document name.now window sim.now seen.now) }
 {
-    let entities = sim.spec().verified_object().object().parts().entities.as_slice();
+    let entities = sim
+        .spec()
+        .verified_object()
+        .object()
+        .parts()
+        .entities
+        .as_slice();
     let height = begins_at(entities, entities.len());
     put_head(out, height, name, window, sim.clock().unsigned_abs())?;
     put_panels(out, window, sim, seen, entities.len())?;

@@ -18,7 +18,7 @@ use crate::plot::{
 };
 use crate::samples::Samples;
 use crate::window::{Window, span_of};
-use gw_drawing::numbers::{round_step, part_of_length};
+use gw_drawing::numbers::{part_of_length, round_step};
 use gw_drawing::text::{put, put_label, put_tenths};
 use gw_object::{Items, Kind, Memory};
 

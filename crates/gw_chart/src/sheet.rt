@@ -258,6 +258,12 @@ pub(crate) fn put_sheet(
     ensures { Puts result out.old out.new (views.sheet window sim.now seen.now) }
 {
     put_heading(alloc, out)?;
-    let entities = sim.spec().verified_object().object().parts().entities.as_slice();
+    let entities = sim
+        .spec()
+        .verified_object()
+        .object()
+        .parts()
+        .entities
+        .as_slice();
     put_all_lines(alloc, out, window, seen, entities)
 }

@@ -1,5 +1,6 @@
 -- The BACKs of code, counted, and the byte by which a BACK is told.
-use Rattle.std.proofs.Common.{◌≡◌, ℕ, suc, ◌+◌, ◌≤◌, ◌<◌, Bool, true, false, cond, IsTrue, List, [], ◌∷◌, ◌++◌, refl, sym, ap, subst, ◌∙◌, append_assoc, arith, rules}
+use Rattle.std.proofs.Common.{◌≡◌, ℕ, suc, ◌+◌, ◌≤◌, ◌<◌, Bool, true, false, cond, IsTrue, List, [], ◌∷◌, ◌++◌, refl, sym, ap, subst, ◌∙◌}
+use Rattle.std.proofs.Common.{append_assoc, arith, rules}
 use Rattle.std.specs.List.{All, count_by}
 use Rattle.std.proofs.lemmas.List.{append-nil}
 use Rattle.std.proofs.lemmas.List.Recursion.{is_count_by}
@@ -34,14 +35,17 @@ added_fits : (back : Bool) (n : ℕ) → n ≤ most_backs → (IsTrue back → n
 added_fits true n le few = omega (arith, few refl)
 added_fits false n le few = omega arith
 
-one_more : (front : List Instruction) (i : Instruction) → backs front ≤ most_backs → (IsTrue (is_back i) → backs front < most_backs) → backs (front ++ i ∷ []) ≤ most_backs
+one_more : (front : List Instruction) (i : Instruction) → backs front ≤ most_backs → (IsTrue (is_back i) → backs front < most_backs)
+    → backs (front ++ i ∷ []) ≤ most_backs
 one_more front i le few = omega (arith, backs-append front (i ∷ []), backs_in_front (is_back i) 0, added_fits (is_back i) (backs front) le few)
 
 -- what fits behind the code at the front has no BACK too many
-pub backs_within : (code front : List Instruction) → backs front ≤ most_backs → ElementsFit next_instruction.Fits front code → backs (front ++ code) ≤ most_backs
+pub backs_within : (code front : List Instruction) → backs front ≤ most_backs → ElementsFit next_instruction.Fits front code
+    → backs (front ++ code) ≤ most_backs
 backs_within [] front le fits = rw (append-nil front) le
 backs_within (i ∷ code) front le fits =
-    subst (λ (all : List Instruction). backs all ≤ most_backs) (append_assoc front (i ∷ []) code) (backs_within code (front ++ i ∷ []) (one_more front i le fits.0.1) fits.1)
+    subst (λ (all : List Instruction). backs all ≤ most_backs) (append_assoc front (i ∷ []) code)
+    (backs_within code (front ++ i ∷ []) (one_more front i le fits.0.1) fits.1)
 
 -- instructions that fit, with no BACK too many, fit behind the code at the front
 pub code_fits : (code front : List Instruction) → All InstructionFits code → backs (front ++ code) ≤ most_backs → ElementsFit next_instruction.Fits front code
@@ -51,7 +55,8 @@ code_fits (i ∷ code) front each le =
     let one : backs (i ∷ code) ≡ 1 + backs code = rw back refl in
     omega (arith, le, backs-append front (i ∷ code), one) in (
       (each 0 i (omega arith), few),
-      code_fits code (front ++ i ∷ []) (λ k d lt. each (suc k) d (omega arith)) (subst (λ (all : List Instruction). backs all ≤ most_backs) (sym (append_assoc front (i ∷ []) code)) le),
+      code_fits code (front ++ i ∷ []) (λ k d lt. each (suc k) d (omega arith))
+          (subst (λ (all : List Instruction). backs all ≤ most_backs) (sym (append_assoc front (i ∷ []) code)) le),
     )
 
 -- ---- the byte by which one is told

@@ -3,7 +3,8 @@ use Rattle.std.proofs.Common.{◌≡◌, ℕ, ◌≤◌, ◌<◌, Bool, true, fa
 use Rattle.std.specs.Int.{w16, w32, w64}
 use Rattle.std.proofs.lemmas.Bool.{cases_lt, lt-leb, le-leb}
 use Rattle.std.proofs.Math.Bool.{and-false}
-use Rattle.gw_num.specs.declared.operators.Binary.TheVariants.{Power, Multiply, Divide, Remainder, Add, Subtract, Greater, GreaterOrEqual, Less, LessOrEqual, Equal, NotEqual, And, Or}
+use Rattle.gw_num.specs.declared.operators.Binary.TheVariants.{Power, Multiply, Divide, Remainder, Add, Subtract, Greater, GreaterOrEqual, Less}
+use Rattle.gw_num.specs.declared.operators.Binary.TheVariants.{LessOrEqual, Equal, NotEqual, And, Or}
 use Rattle.gw_num.specs.declared.operators.Unary.TheVariants.{Negate, Not}
 use Rattle.gw_blocks.specs.Limits.{most_parameters}
 use Rattle.gw_blocks.specs.Grammar.{parameter_number, attribute, numbered_field, tag_form}
@@ -17,10 +18,15 @@ use Rattle.gw_code.specs.declared.parts.Procedure.{Procedure}
 use Rattle.gw_fields.specs.Codes as codes
 use Rattle.gw_fields.specs.declared.error.Bad.{Bad}
 use Rattle.gw_fields.specs.Fields.{bad, byte, number, signed_number, nothing, form_read, by_tag, ElementsFit}
-use Rattle.gw_code.specs.Grammar.{SnaFits, sna_spelling, sna_forms, sna_read, sna, BackFits, jump_back, InstructionFits, instruction_spelling, instruction_forms, instruction_read, instruction, is_back, backs, begins_with_back, next_instruction, need, counts, ProcedureFits, NeedsAscend, procedure}
+use Rattle.gw_code.specs.Grammar.{SnaFits, sna_spelling, sna_forms, sna_read, sna, BackFits, jump_back, InstructionFits, instruction_spelling}
+use Rattle.gw_code.specs.Grammar.{instruction_forms, instruction_read, instruction, is_back, backs, begins_with_back, next_instruction, need, counts}
+use Rattle.gw_code.specs.Grammar.{ProcedureFits, NeedsAscend, procedure}
 use Rattle.gw_field_bytes.proofs.AboveLast.{above_last_exact, above_last_fit, above_last_ascends}
 use Rattle.gw_code.proofs.Backs.{backs_within, code_fits, begins_as_it_is, front_of_back}
-use Rattle.gw_field_bytes.proofs.Exact.{IsBytes, Takes, CutsFronts, chosen, err_is, not_both, ReadsBack, ◌also◌, tag_reads_back, IsExactForm, AreExactForms, behind_exact, by_tag_exact, IsExact, IsExactElement, byte_exact, wide16, wide32, wide64, number_exact, signed_exact, nothing_exact, made_exact, both_exact, and_then_exact, fitting_exact, ranged_exact, listed_exact, All-from_fit}
+use Rattle.gw_field_bytes.proofs.Exact.{IsBytes, Takes, CutsFronts, chosen, err_is, not_both, ReadsBack, ◌also◌, tag_reads_back, IsExactForm}
+use Rattle.gw_field_bytes.proofs.Exact.{AreExactForms, behind_exact, by_tag_exact, IsExact, IsExactElement, byte_exact, wide16, wide32, wide64}
+use Rattle.gw_field_bytes.proofs.Exact.{number_exact, signed_exact, nothing_exact, made_exact, both_exact, and_then_exact, fitting_exact}
+use Rattle.gw_field_bytes.proofs.Exact.{ranged_exact, listed_exact, All-from_fit}
 
 -- ---- attributes
 
@@ -48,7 +54,8 @@ jump_back_exact = fitting_exact BackFits _ (λ b h. record { target = h.0; count
     (made_exact _ _ _ (λ x h. refl) (λ b h. refl) (both_exact _ _ (number_exact w16 wide16) (number_exact w32 wide32)))
 
 -- an instruction of which nothing is behind the tag
-tag_form_exact : (tag : ℕ) (i : Instruction) → tag ∷ [] ≡ instruction_spelling i → InstructionFits i → IsExactForm instruction_spelling InstructionFits (tag_form tag i)
+tag_form_exact : (tag : ℕ) (i : Instruction) → tag ∷ [] ≡ instruction_spelling i → InstructionFits i
+    → IsExactForm instruction_spelling InstructionFits (tag_form tag i)
 tag_form_exact tag i spelled fits = behind_exact instruction_spelling InstructionFits tag (λ _. i) nothing (λ _. spelled) (λ _ _. fits) nothing_exact
 
 instruction_forms_exact : AreExactForms instruction_spelling InstructionFits instruction_forms
@@ -75,13 +82,16 @@ instruction_forms_exact =
     also tag_form_exact 19 (Unary Not) refl tt
     also tag_form_exact 20 Pop refl tt
     also behind_exact instruction_spelling InstructionFits 21 (λ target. Jump target) (number w16) (λ target. refl) (λ target h. h) (number_exact w16 wide16)
-    also behind_exact instruction_spelling InstructionFits 22 (λ target. JumpIfZero target) (number w16) (λ target. refl) (λ target h. h) (number_exact w16 wide16)
+    also behind_exact instruction_spelling InstructionFits 22 (λ target. JumpIfZero target) (number w16) (λ target. refl) (λ target h. h)
+    (number_exact w16 wide16)
     also behind_exact instruction_spelling InstructionFits 23 (λ b. Back b) jump_back (λ b. refl) (λ b h. h) jump_back_exact
-    also behind_exact instruction_spelling InstructionFits 24 (λ procedure. Call procedure) (number w16) (λ procedure. refl) (λ procedure h. h) (number_exact w16 wide16)
+    also behind_exact instruction_spelling InstructionFits 24 (λ procedure. Call procedure) (number w16) (λ procedure. refl)
+    (λ procedure h. h) (number_exact w16 wide16)
     also tag_form_exact 25 Return refl tt
     also tt
 
-alone_reads_back : (tag : ℕ) (i : Instruction) → ((bytes rest : List ℕ) → form_read instruction_forms tag bytes rest ≡ Ok (i, rest)) → ReadsBack (by_tag instruction_forms) (tag ∷ []) i
+alone_reads_back : (tag : ℕ) (i : Instruction) → ((bytes rest : List ℕ) → form_read instruction_forms tag bytes rest ≡ Ok (i, rest))
+    → ReadsBack (by_tag instruction_forms) (tag ∷ []) i
 alone_reads_back tag i found = tag_reads_back instruction_forms tag (λ _. i) nothing found nothing_exact tt tt
 
 instruction_reads_back : (i : Instruction) → InstructionFits i → ReadsBack instruction_read (instruction_spelling i) i
@@ -107,10 +117,13 @@ instruction_reads_back (Binary And) fits = alone_reads_back 17 (Binary And) (λ 
 instruction_reads_back (Binary Or) fits = alone_reads_back 18 (Binary Or) (λ _ _. refl)
 instruction_reads_back (Unary Not) fits = alone_reads_back 19 (Unary Not) (λ _ _. refl)
 instruction_reads_back Pop fits = alone_reads_back 20 Pop (λ _ _. refl)
-instruction_reads_back (Jump target) fits = tag_reads_back instruction_forms 21 (λ target. Jump target) (number w16) (λ _ _. refl) (number_exact w16 wide16) target fits
-instruction_reads_back (JumpIfZero target) fits = tag_reads_back instruction_forms 22 (λ target. JumpIfZero target) (number w16) (λ _ _. refl) (number_exact w16 wide16) target fits
+instruction_reads_back (Jump target) fits =
+    tag_reads_back instruction_forms 21 (λ target. Jump target) (number w16) (λ _ _. refl) (number_exact w16 wide16) target fits
+instruction_reads_back (JumpIfZero target) fits =
+    tag_reads_back instruction_forms 22 (λ target. JumpIfZero target) (number w16) (λ _ _. refl) (number_exact w16 wide16) target fits
 instruction_reads_back (Back b) fits = tag_reads_back instruction_forms 23 (λ b. Back b) jump_back (λ _ _. refl) jump_back_exact b fits
-instruction_reads_back (Call procedure) fits = tag_reads_back instruction_forms 24 (λ procedure. Call procedure) (number w16) (λ _ _. refl) (number_exact w16 wide16) procedure fits
+instruction_reads_back (Call procedure) fits =
+    tag_reads_back instruction_forms 24 (λ procedure. Call procedure) (number w16) (λ _ _. refl) (number_exact w16 wide16) procedure fits
 instruction_reads_back Return fits = alone_reads_back 25 Return (λ _ _. refl)
 
 pub instruction_exact : IsExact instruction
@@ -136,7 +149,8 @@ is_allowed : (n : ℕ) (back : Bool) → (IsTrue back → n < most_backs) → (l
 is_allowed n true few = let room : leb most_backs n ≡ false = lt-leb _ _ (few refl) in rw room refl
 is_allowed n false few = and-false (leb most_backs n)
 
-next_takes : (front : List Instruction) (left : ℕ) (bytes : List ℕ) (x : Instruction × List ℕ) → IsBytes bytes → next_instruction.read front left bytes ≡ Ok x → Takes bytes (instruction_spelling x.0) x.1 × next_instruction.Fits front left x.0
+next_takes : (front : List Instruction) (left : ℕ) (bytes : List ℕ) (x : Instruction × List ℕ) → IsBytes bytes
+    → next_instruction.read front left bytes ≡ Ok x → Takes bytes (instruction_spelling x.0) x.1 × next_instruction.Fits front left x.0
 next_takes front left bytes x fits e =
     elim (chosen (is_too_many front bytes) (Err (bad codes.limit bytes)) (instruction_read bytes) (Ok x) e) [
       | inl refused ↦ not_both x (bad codes.limit bytes) (sym refused.1)
@@ -146,19 +160,22 @@ next_takes front left bytes x fits e =
           (p.0, (p.1, λ back. few_before (backs front) (begins_with_back bytes) allowed.0 (told ∙ back)))
     ]
 
-next_again : (front : List Instruction) (left : ℕ) (i : Instruction) (rest : List ℕ) → next_instruction.Fits front left i → next_instruction.read front left (instruction_spelling i ++ rest) ≡ Ok (i, rest)
+next_again : (front : List Instruction) (left : ℕ) (i : Instruction) (rest : List ℕ) → next_instruction.Fits front left i
+    → next_instruction.read front left (instruction_spelling i ++ rest) ≡ Ok (i, rest)
 next_again front left i rest fits =
     let allowed : is_too_many front (instruction_spelling i ++ rest) ≡ false = rw (begins_as_it_is i rest) (is_allowed (backs front) (is_back i) fits.1) in
     rw allowed (instruction_exact.again i rest fits.0)
 
-next_within : (front : List Instruction) (left : ℕ) (bytes : List ℕ) (e : Bad) → IsBytes bytes → next_instruction.read front left bytes ≡ Err e → e.left ≤ length bytes
+next_within : (front : List Instruction) (left : ℕ) (bytes : List ℕ) (e : Bad) → IsBytes bytes → next_instruction.read front left bytes
+    ≡ Err e → e.left ≤ length bytes
 next_within front left bytes e fits h =
     elim (chosen (is_too_many front bytes) (Err (bad codes.limit bytes)) (instruction_read bytes) (Err e) h) [
       | inl refused ↦ rw (← err_is (bad codes.limit bytes) e refused.1) (omega arith)
       | inr allowed ↦ instruction_exact.within bytes e fits allowed.1
     ]
 
-next_cut : (front : List Instruction) (left : ℕ) (i : Instruction) → next_instruction.Fits front left i → CutsFronts (next_instruction.read front left) (instruction_spelling i)
+next_cut : (front : List Instruction) (left : ℕ) (i : Instruction) → next_instruction.Fits front left i
+    → CutsFronts (next_instruction.read front left) (instruction_spelling i)
 next_cut front left i fits bytes begins =
     let allowed : is_too_many front bytes ≡ false = is_allowed (backs front) (begins_with_back bytes) (λ told. fits.1 (front_of_back i bytes begins told)) in
     rw allowed (instruction_exact.cut i fits.0 bytes begins)
@@ -178,7 +195,8 @@ counts_exact = and_then_exact byte _ byte_exact (λ arguments. ranged_exact argu
 abbrev ProcedureFields : Procedure → Type 0
 ProcedureFields p =
     ((p.arguments < 256) × ((p.arguments ≤ p.locals) × (p.locals ≤ most_locals)))
-    × (((0 ≤ length p.needs) × (length p.needs ≤ most_parameters) × ElementsFit need.Fits [] p.needs) × ((0 ≤ length p.code) × (length p.code ≤ most_instructions) × ElementsFit next_instruction.Fits [] p.code))
+    × (((0 ≤ length p.needs) × (length p.needs ≤ most_parameters) × ElementsFit need.Fits [] p.needs)
+    × ((0 ≤ length p.code) × (length p.code ≤ most_instructions) × ElementsFit next_instruction.Fits [] p.code))
 
 procedure_fields : (p : Procedure) → ProcedureFits p × NeedsAscend p → ProcedureFields p
 procedure_fields p (fits, up) = (
@@ -206,4 +224,7 @@ procedure_keeps p (numbers, (needs, code)) = (
 pub procedure_exact : IsExact procedure
 unfolding procedure
 procedure_exact = fitting_exact (λ p. ProcedureFits p × NeedsAscend p) _ procedure_keeps procedure_fields
-    (made_exact _ _ _ (λ x h. refl) (λ p h. refl) (both_exact _ _ counts_exact (both_exact _ _ (listed_exact 0 most_parameters need (omega arith) need_exact) (listed_exact 0 most_instructions next_instruction (omega arith) next_instruction_exact))))
+    (made_exact _ _ _ (λ x h. refl) (λ p h. refl)
+    (both_exact _ _ counts_exact
+    (both_exact _ _ (listed_exact 0 most_parameters need (omega arith) need_exact)
+    (listed_exact 0 most_instructions next_instruction (omega arith) next_instruction_exact))))

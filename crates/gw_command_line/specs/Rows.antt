@@ -1,5 +1,6 @@
 -- The words of the commands for many machines.
-use Rattle.std.specs.Prelude.{◌==◌, ℕ, ◌^◌, nat_lt, nat_le, List, [], ◌∷◌, length, Option, Some, None, is_none, option_and_then, option_map, Bool, true, not, ◌&&◌, if◌then◌else◌}
+use Rattle.std.specs.Prelude.{◌==◌, ℕ, ◌^◌, nat_lt, nat_le, List, [], ◌∷◌, length, Option, Some, None, is_none, option_and_then, option_map, Bool}
+use Rattle.std.specs.Prelude.{true, not, ◌&&◌, if◌then◌else◌}
 use Rattle.std.specs.List.{list_any, position_or_len, before_first, after_first}
 use Rattle.std.specs.Option.{unwrap_or}
 use Rattle.gw_num.specs.Numerals.{number_below}

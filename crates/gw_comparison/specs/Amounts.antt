@@ -1,5 +1,6 @@
 -- Numbers of millionths, as they are told.
-use Rattle.std.specs.Prelude.{ℕ, ◌+◌, ◌-◌, ◌*◌, min, max, ◌/◌, ◌%◌, nat_lt, List, [], ◌++◌, drop, codes, ℤ, pos, unsigned_abs, int_lt, Bool, ◌&&◌, if◌then◌else◌}
+use Rattle.std.specs.Prelude.{ℕ, ◌+◌, ◌-◌, ◌*◌, min, max, ◌/◌, ◌%◌, nat_lt, List, [], ◌++◌, drop, codes, ℤ, pos, unsigned_abs, int_lt, Bool, ◌&&◌}
+use Rattle.std.specs.Prelude.{if◌then◌else◌}
 use Rattle.std.specs.Int.{div_ceil}
 use Rattle.std.specs.Fmt.{decimal}
 

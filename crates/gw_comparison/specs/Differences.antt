@@ -1,5 +1,6 @@
 -- The differences of a point to another, by pairs of runs.
-use Rattle.std.specs.Prelude.{◌≡◌, ℕ, ◌+◌, ◌≤◌, ◌<◌, ◌^◌, nat_lt, nat_le, List, [], ◌∷◌, ◌++◌, length, codes, ℤ, unsigned_abs, Bool, false, if◌then◌else◌, Option, Some, None, MatchBool}
+use Rattle.std.specs.Prelude.{◌≡◌, ℕ, ◌+◌, ◌≤◌, ◌<◌, ◌^◌, nat_lt, nat_le, List, [], ◌∷◌, ◌++◌, length, codes, ℤ, unsigned_abs, Bool, false}
+use Rattle.std.specs.Prelude.{if◌then◌else◌, Option, Some, None, MatchBool}
 use Rattle.std.specs.List.{All}
 use Rattle.gw_statistics.specs.Pairs.{differences}
 use Rattle.gw_statistics.specs.declared.summary.Summary.{Summary}

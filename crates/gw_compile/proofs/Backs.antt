@@ -50,12 +50,17 @@ mutual
   no_backs n scope (Attribute sna) = none_attribute (attribute_in n sna)
   no_backs n scope (Parentheses' x e) = no_backs n scope e
   no_backs n scope (Unary' operator x a) = both_none (expression_code n scope a) (Unary operator ∷ []) (no_backs n scope a) refl
-  no_backs n scope (Binary' operator x a y b) = both_none (expression_code n scope a) (expression_code n scope b ++ Binary operator ∷ []) (no_backs n scope a) (both_none (expression_code n scope b) (Binary operator ∷ []) (no_backs n scope b) refl)
-  no_backs n scope (Call' name shape es) = both_none (expressions_code n scope es) (call_code (n.procedure (string_bytes name))) (none_among n scope es) (none_call (n.procedure (string_bytes name)))
+  no_backs n scope (Binary' operator x a y b) =
+      both_none (expression_code n scope a) (expression_code n scope b ++ Binary operator ∷ []) (no_backs n scope a)
+      (both_none (expression_code n scope b) (Binary operator ∷ []) (no_backs n scope b) refl)
+  no_backs n scope (Call' name shape es) =
+      both_none (expressions_code n scope es) (call_code (n.procedure (string_bytes name))) (none_among n scope es)
+      (none_call (n.procedure (string_bytes name)))
 
   none_among : {m : _} (n : Numbers) (scope : Scope) (es : Row_of-Expression m) → backs (expressions_code n scope es) ≡ 0
   none_among n scope end_of-Expression = refl
-  none_among n scope (more_of-Expression e es) = both_none (expression_code n scope e) (expressions_code n scope es) (no_backs n scope e) (none_among n scope es)
+  none_among n scope (more_of-Expression e es) =
+      both_none (expression_code n scope e) (expressions_code n scope es) (no_backs n scope e) (none_among n scope es)
 
 -- nor in that of its procedure
 pub none_in_procedure : (n : Numbers) (e : Expression) → backs (procedure_code n e) ≡ 0

@@ -38,7 +38,8 @@ call_fits None given call is = absurd (cc)
 call_fits (Some c) given call is = eqb-true given c.arguments (decided _ _ is)
 
 -- a fault that the first explains is explained by both
-pub judged_first : (A B : Type 0) (a b : Option Blame) (over : Type 0) (fault : CompileFault) → Judges {A = A} a over (Err fault) → Judges {A = B} (first_of a b) over (Err fault)
+pub judged_first : (A B : Type 0) (a b : Option Blame) (over : Type 0) (fault : CompileFault) → Judges {A = A} a over (Err fault)
+    → Judges {A = B} (first_of a b) over (Err fault)
 judged_first A B a b over (faults.Unknown operand) judged = ap (λ x. first_of x b) judged
 judged_first A B a b over (faults.Arguments call) judged = ap (λ x. first_of x b) judged
 judged_first A B a b over (faults.Target name) judged = ap (λ x. first_of x b) judged
@@ -46,5 +47,6 @@ judged_first A B a b over faults.Limit judged = judged
 judged_first A B a b over faults.Memory judged = tt
 
 -- where the first is nobody, what goes by the second goes by both
-pub judged_second : {A : Type 0} (a b : Option Blame) (over : Type 0) (answer : Result A CompileFault) → a ≡ None → Judges b over answer → Judges (first_of a b) over answer
+pub judged_second : {A : Type 0} (a b : Option Blame) (over : Type 0) (answer : Result A CompileFault) → a ≡ None → Judges b over answer
+    → Judges (first_of a b) over answer
 judged_second a b over answer none judged = subst (λ x. Judges (first_of x b) over answer) (sym none) judged

@@ -1,5 +1,6 @@
 -- A procedure's needs ascend, and suffice.
-use Rattle.std.proofs.Common.{rules, ◌≡◌, ℕ, zero, suc, ◌<◌, List, [], ◌∷◌, length, Some, Bool, true, false, if◌then◌else◌, ◌||◌, ◌==◌, nat_lt, refl, sym, ap, ◌∙◌, subst, arith, All}
+use Rattle.std.proofs.Common.{rules, ◌≡◌, ℕ, zero, suc, ◌<◌, List, [], ◌∷◌, length, Some, Bool, true, false, if◌then◌else◌, ◌||◌, ◌==◌, nat_lt, refl}
+use Rattle.std.proofs.Common.{sym, ap, ◌∙◌, subst, arith, All}
 use Rattle.std.specs.Prelude.{slice_get}
 use Rattle.std.specs.List.{list_all, AllPairs}
 use Rattle.std.proofs.lemmas.Bool.{eqb-true, eq-eqb, ltb-true, or_right}
@@ -36,7 +37,8 @@ all_kept : (xs ys : List ℕ) (z : ℕ) → is_among ys z ≡ true → is_among 
 all_kept [] ys z there = there
 all_kept (x ∷ xs) ys z there = all_kept xs (with_number x ys) z (kept_in x z ys there)
 
-all_put_by : (x z : ℕ) (xs ys : List ℕ) → (is_among xs z ≡ true → is_among (with_numbers xs (with_number x ys)) z ≡ true) → (b : Bool) → (z == x) ≡ b → (b || is_among xs z) ≡ true → is_among (with_numbers xs (with_number x ys)) z ≡ true
+all_put_by : (x z : ℕ) (xs ys : List ℕ) → (is_among xs z ≡ true → is_among (with_numbers xs (with_number x ys)) z ≡ true) → (b : Bool)
+    → (z == x) ≡ b → (b || is_among xs z) ≡ true → is_among (with_numbers xs (with_number x ys)) z ≡ true
 all_put_by x z xs ys others true is there =
     let same : x ≡ z = sym (eqb-true z x is) in
     all_kept xs (with_number x ys) z (subst (λ k. is_among (with_number x ys) k ≡ true) same (put_in x ys))
@@ -52,11 +54,13 @@ module _ (n : Numbers) (procedures : List Procedure) where
   code_kept [] needs z there = there
   code_kept (i ∷ code) needs z there = code_kept code (with_numbers (asks n procedures i) needs) z (all_kept (asks n procedures i) needs z there)
 
-  code_put : (code : List Instruction) (needs : List ℕ) (place : ℕ) (i : Instruction) (z : ℕ) → slice_get code place ≡ Some i → is_among (asks n procedures i) z ≡ true → is_among (needs_with n procedures code needs) z ≡ true
+  code_put : (code : List Instruction) (needs : List ℕ) (place : ℕ) (i : Instruction) (z : ℕ) → slice_get code place ≡ Some i
+      → is_among (asks n procedures i) z ≡ true → is_among (needs_with n procedures code needs) z ≡ true
   code_put [] needs place i z here there = absurd (cc)
   code_put (j ∷ code) needs zero i z here there =
       let same : i ≡ j = cc in
-      code_kept code (with_numbers (asks n procedures j) needs) z (all_put (asks n procedures j) needs z (subst (λ x. is_among (asks n procedures x) z ≡ true) same there))
+      code_kept code (with_numbers (asks n procedures j) needs) z
+      (all_put (asks n procedures j) needs z (subst (λ x. is_among (asks n procedures x) z ≡ true) same there))
   code_put (j ∷ code) needs (suc place) i z here there = code_put code (with_numbers (asks n procedures j) needs) place i z here there
 
 -- each of several numbers is among these
@@ -93,7 +97,8 @@ module _ (n : Numbers) (procedures : List Procedure) (p : Parts) (goes : GoesOnF
 -- so a procedure that needs what its code asks for needs enough
 needs_suffice : (n : Numbers) (procedures : List Procedure) (pr : Procedure) → pr.needs ≡ needs_in n procedures pr.code → NeedsSuffice n procedures pr
 needs_suffice n procedures pr same p place i goes here lower =
-    let each : (z : ℕ) → is_among (asks n procedures i) z ≡ true → is_among pr.needs z ≡ true = λ z there. subst (λ needs. is_among needs z ≡ true) (sym same) (code_put n procedures pr.code [] place i z here there) in
+    let each : (z : ℕ) → is_among (asks n procedures i) z ≡ true → is_among pr.needs z ≡ true =
+    λ z there. subst (λ needs. is_among needs z ≡ true) (sym same) (code_put n procedures pr.code [] place i z here there) in
     subst (λ xs. list_all (is_among pr.needs) xs ≡ true) (sym (asks_the_same n procedures p goes i lower)) (all_among pr.needs (asks n procedures i) each)
 
 -- THEY ASCEND
@@ -107,7 +112,8 @@ all_with : (P : ℕ → Type 0) (x : ℕ) (ys : List ℕ) → P x → All P ys �
 all_with P x [] here each = All-cons P x [] here (All-nil P)
 all_with P x (y ∷ ys) here each = all_with_by P x y ys here each (all_with P x ys here (All-tail P y ys each)) (x == y) (nat_lt x y)
   where
-    all_with_by : (P : ℕ → Type 0) (x y : ℕ) (ys : List ℕ) → P x → All P (y ∷ ys) → All P (with_number x ys) → (a b : Bool) → All P (if a then y ∷ ys else if b then x ∷ y ∷ ys else y ∷ with_number x ys)
+    all_with_by : (P : ℕ → Type 0) (x y : ℕ) (ys : List ℕ) → P x → All P (y ∷ ys) → All P (with_number x ys) → (a b : Bool)
+        → All P (if a then y ∷ ys else if b then x ∷ y ∷ ys else y ∷ with_number x ys)
     all_with_by P x y ys here each more true b = each
     all_with_by P x y ys here each more false true = All-cons P x (y ∷ ys) here each
     all_with_by P x y ys here each more false false = All-cons P y (with_number x ys) (All-head P y ys each) more
@@ -122,7 +128,8 @@ ascend_with : (x : ℕ) (ys : List ℕ) → Ascend ys → Ascend (with_number x 
 ascend_with x [] up = (All-nil (λ z. x < z), tt)
 ascend_with x (y ∷ ys) up = ascend_by x y ys up (ascend_with x ys up.1) (x == y) (nat_lt x y) refl refl
   where
-    ascend_by : (x y : ℕ) (ys : List ℕ) → Ascend (y ∷ ys) → Ascend (with_number x ys) → (a b : Bool) → (x == y) ≡ a → nat_lt x y ≡ b → Ascend (if a then y ∷ ys else if b then x ∷ y ∷ ys else y ∷ with_number x ys)
+    ascend_by : (x y : ℕ) (ys : List ℕ) → Ascend (y ∷ ys) → Ascend (with_number x ys) → (a b : Bool) → (x == y) ≡ a → nat_lt x y ≡ b
+        → Ascend (if a then y ∷ ys else if b then x ∷ y ∷ ys else y ∷ with_number x ys)
     ascend_by x y ys up more true b is below = up
     ascend_by x y ys up more false true is below =
         let l = ltb-true x y below in
@@ -135,16 +142,19 @@ all_ascend : (xs ys : List ℕ) → Ascend ys → Ascend (with_numbers xs ys)
 all_ascend [] ys up = up
 all_ascend (x ∷ xs) ys up = all_ascend xs (with_number x ys) (ascend_with x ys up)
 
-code_ascends : (n : Numbers) (procedures : List Procedure) (code : List Instruction) (needs : List ℕ) → Ascend needs → Ascend (needs_with n procedures code needs)
+code_ascends : (n : Numbers) (procedures : List Procedure) (code : List Instruction) (needs : List ℕ) → Ascend needs
+    → Ascend (needs_with n procedures code needs)
 code_ascends n procedures [] needs up = up
-code_ascends n procedures (i ∷ code) needs up = code_ascends n procedures code (with_numbers (asks n procedures i) needs) (all_ascend (asks n procedures i) needs up)
+code_ascends n procedures (i ∷ code) needs up =
+    code_ascends n procedures code (with_numbers (asks n procedures i) needs) (all_ascend (asks n procedures i) needs up)
 
 in_pairs : (ys : List ℕ) → Ascend ys → AllPairs (λ a b. a < b) ys
 in_pairs [] up = λ i j d a b. absurd (omega arith)
 in_pairs (y ∷ ys) up = AllPairs-cons (λ a b. a < b) y ys up.0 (in_pairs ys up.1)
 
 -- a procedure that needs what its code asks for
-pub needs_what_it_asks : (n : Numbers) (procedures : List Procedure) (pr : Procedure) → pr.needs ≡ needs_in n procedures pr.code → NeedsWhatItAsks n procedures pr
+pub needs_what_it_asks : (n : Numbers) (procedures : List Procedure) (pr : Procedure) → pr.needs ≡ needs_in n procedures pr.code
+    → NeedsWhatItAsks n procedures pr
 needs_what_it_asks n procedures pr same = record {
   needs = same;
   ascend = subst (λ needs. AllPairs (λ a b. a < b) needs) (sym same) (in_pairs _ (code_ascends n procedures pr.code [] tt));

@@ -6,12 +6,14 @@ use Rattle.gw_code.specs.declared.parts.Instruction.{Instruction}
 use Rattle.gw_code.specs.declared.parts.Instruction.TheVariants.{JumpIfZero}
 use Rattle.gw_code.specs.declared.parts.Procedure.{Procedure}
 use Rattle.gw_text_plus.specs.declared.model.Procedure.{Procedure as TextProcedure}
-use Rattle.gw_text_plus.specs.declared.model.PlusStatement.{PlusStatement, Row_of-PlusStatement, end_of-PlusStatement, more_of-PlusStatement, Held-PlusStatement-If-2, None', Some'}
+use Rattle.gw_text_plus.specs.declared.model.PlusStatement.{PlusStatement, Row_of-PlusStatement, end_of-PlusStatement, more_of-PlusStatement}
+use Rattle.gw_text_plus.specs.declared.model.PlusStatement.{Held-PlusStatement-If-2, None', Some'}
 use Rattle.gw_text_plus.specs.declared.model.PlusStatement.TheVariants.{Block', Temporary, Assign, If', While', Return as Returns}
 use Rattle.gw_compile.specs.Numbers.{Numbers, Scope, number_of}
 use Rattle.gw_compile.specs.Code.{expression_code}
 use Rattle.gw_compile.specs.Unknown.{first_of, first_blame}
-use Rattle.gw_compile.specs.Statements.{Standing, target, when, leap, leap_length, turn, if_no_target, has_else, reached_piece, piece, else_piece, pieces, body_of, body_code, end_code}
+use Rattle.gw_compile.specs.Statements.{Standing, target, when, leap, leap_length, turn, if_no_target, has_else, reached_piece, piece, else_piece}
+use Rattle.gw_compile.specs.Statements.{pieces, body_of, body_code, end_code}
 use Rattle.gw_compile.specs.Keeps.{KeepsValueAt}
 use Rattle.gw_compile.proofs.Blaming.{neither}
 use Rattle.gw_compile.proofs.Standing.{HasAt, has_front, has_back, has_all}
@@ -27,12 +29,14 @@ module _ (n : Numbers) (code : List Instruction) where
   Stands at = HasAt code at.place (expression_code n at.scope at.expression) × (first_blame n at.scope at.expression ≡ None)
 
   -- where a path leads
-  when_reached : (reached : Bool) (place : ℕ) (own : List Instruction) (values : List Standing) → (HasAt code place own → All Stands values) → HasAt code place (when reached own) → All Stands (when reached values)
+  when_reached : (reached : Bool) (place : ℕ) (own : List Instruction) (values : List Standing)
+      → (HasAt code place own → All Stands values) → HasAt code place (when reached own) → All Stands (when reached values)
   when_reached true place own values stand has = stand has
   when_reached false place own values stand has = All-nil Stands
 
   mutual
-    stand : (scope : Scope) (place : ℕ) (s : PlusStatement) → HasAt code place (piece n scope place s).code → (piece n scope place s).blame ≡ None → All Stands (piece n scope place s).values
+    stand : (scope : Scope) (place : ℕ) (s : PlusStatement) → HasAt code place (piece n scope place s).code → (piece n scope place s).blame
+        ≡ None → All Stands (piece n scope place s).values
     stand scope place (Block' shape ss) has none = all_stand scope place true ss has none
     stand scope place (Temporary names) has none = All-nil Stands
     stand scope place (Assign name e) has none =
@@ -52,22 +56,27 @@ module _ (n : Numbers) (code : List Instruction) where
         let there = has_back code (inside + length first.code) leaping second.code (has_back code inside first.code (leaping ++ second.code) rest) in
         let here = subst (λ k. HasAt code (inside + length first.code + k) second.code) (leap_is skips (behind + length second.code)) there in
         All-cons Stands _ _ (has_front code place tested _ has, nobody.0)
-        (All-append Stands first.values second.values (stand scope inside a (has_front code inside first.code _ rest) others.0) (else_stands first.scope behind other here others.1))
+        (All-append Stands first.values second.values (stand scope inside a (has_front code inside first.code _ rest) others.0)
+        (else_stands first.scope behind other here others.1))
     stand scope place (While' test x a) has none =
         let tested = expression_code n scope test in
         let inside = place + length tested + 1 in
         let body = piece n scope inside a in
         let nobody = neither (first_blame n scope test) body.blame none in
-        let rest = (has_back code place tested (JumpIfZero (target (inside + length body.code + length (turn body.goes_on place))) ∷ (body.code ++ turn body.goes_on place)) has).1 in
+        let rest = (has_back code place tested
+        (JumpIfZero (target (inside + length body.code + length (turn body.goes_on place))) ∷ (body.code ++ turn body.goes_on place)) has).1 in
         All-cons Stands _ body.values (has_front code place tested _ has, nobody.0) (stand scope inside a (has_front code inside body.code _ rest) nobody.1)
     stand scope place (Returns None) has none = All-nil Stands
     stand scope place (Returns (Some e)) has none = All-cons Stands _ [] (has_front code place (expression_code n scope e) _ has, none) (All-nil Stands)
 
-    else_stands : (scope : Scope) (place : ℕ) (other : Held-PlusStatement-If-2) → HasAt code place (else_piece n scope place other).code → (else_piece n scope place other).blame ≡ None → All Stands (else_piece n scope place other).values
+    else_stands : (scope : Scope) (place : ℕ) (other : Held-PlusStatement-If-2) → HasAt code place (else_piece n scope place other).code
+        → (else_piece n scope place other).blame ≡ None → All Stands (else_piece n scope place other).values
     else_stands scope place None' has none = All-nil Stands
     else_stands scope place (Some' x a) has none = stand scope place a has none
 
-    all_stand : {m : _} (scope : Scope) (place : ℕ) (reached : Bool) (ss : Row_of-PlusStatement m) → HasAt code place (pieces n scope place reached ss).code → (pieces n scope place reached ss).blame ≡ None → All Stands (pieces n scope place reached ss).values
+    all_stand : {m : _} (scope : Scope) (place : ℕ) (reached : Bool) (ss : Row_of-PlusStatement m)
+        → HasAt code place (pieces n scope place reached ss).code → (pieces n scope place reached ss).blame ≡ None
+        → All Stands (pieces n scope place reached ss).values
     all_stand scope place reached end_of-PlusStatement has none = All-nil Stands
     all_stand scope place reached (more_of-PlusStatement s ss) has none =
         let whole = piece n scope place s in
@@ -83,7 +92,8 @@ all_onward P Q [] onward each = All-nil Q
 all_onward P Q (x ∷ xs) onward each = All-cons Q x xs (onward x (All-head P x xs each)) (all_onward P Q xs onward (All-tail P x xs each))
 
 -- the expressions of a PROCEDURE keep their values
-pub values_kept : (n : Numbers) (procedure : TextProcedure) (pr : Procedure) → pr.code ≡ body_code (body_of n procedure) → (body_of n procedure).blame ≡ None → All (KeepsValueAt n pr) (body_of n procedure).values
+pub values_kept : (n : Numbers) (procedure : TextProcedure) (pr : Procedure) → pr.code ≡ body_code (body_of n procedure)
+    → (body_of n procedure).blame ≡ None → All (KeepsValueAt n pr) (body_of n procedure).values
 values_kept n procedure pr is none =
     let body = body_of n procedure in
     let has : HasAt pr.code 0 (body_code body) = subst (λ c. HasAt c 0 (body_code body)) (sym is) (has_all (body_code body) []) in

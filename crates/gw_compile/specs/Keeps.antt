@@ -44,7 +44,8 @@ pub record GoesOnFrom (n : Numbers) (procedures : List Procedure) (p : Parts) : 
 
 -- NEEDS
 
--- the needs suffice: in such an object no instruction of the procedure, as the next one, asks for a parameter that isn't among them, unless it calls a procedure that isn't lower
+-- the needs suffice: in such an object no instruction of the procedure, as the next one, asks for a parameter that
+-- isn't among them, unless it calls a procedure that isn't lower
 abbrev pub NeedsSuffice : Numbers → List Procedure → Procedure → Type 0
 NeedsSuffice n procedures pr =
     (p : Parts) (place : ℕ) (i : Instruction)
@@ -67,7 +68,8 @@ pub record KeepsLimits (pr : Procedure) : Type 0 where
 
 -- THE VALUE
 
--- a procedure keeps the value of an expression: in an object whose kinds and PLUS code pass, and of which the numbers speak, it comes in each environment that sets what it needs to what the expression comes to
+-- a procedure keeps the value of an expression: in an object whose kinds and PLUS code pass, and of which the numbers
+-- speak, it comes in each environment that sets what it needs to what the expression comes to
 abbrev pub KeepsValue : Numbers → Expression → Procedure → Type 0
 KeepsValue n e pr =
     (p : Parts) (env : Environment) (q : ℕ)
@@ -78,9 +80,11 @@ KeepsValue n e pr =
 abbrev pub GoesOnWith : Parts → Environment → ℕ → Came ℤ → ℕ → List ℤ → List ℤ → Taken → Result ℤ PlusEnd → Type 0
 GoesOnWith p env q None place stack locals taken r = ⊥
 GoesOnWith p env q (Some (Err e)) place stack locals taken r = r ≡ Err e
-GoesOnWith p env q (Some (Ok v)) place stack locals taken r = (k : ℕ) × Derives p env q (record { place = place; stack = stack ++ v ∷ []; locals = locals; taken = taken }) k r
+GoesOnWith p env q (Some (Ok v)) place stack locals taken r = (k : ℕ)
+    × Derives p env q (record { place = place; stack = stack ++ v ∷ []; locals = locals; taken = taken }) k r
 
--- an expression within a procedure keeps its value: an activation that comes to its place goes on behind its code with what it comes to by the locals that it has there
+-- an expression within a procedure keeps its value: an activation that comes to its place goes on behind its code with
+-- what it comes to by the locals that it has there
 abbrev pub KeepsValueAt : Numbers → Procedure → Standing → Type 0
 KeepsValueAt n pr at =
     (p : Parts) (env : Environment) (q : ℕ) (stack locals : List ℤ) (taken : Taken) (k : ℕ) (r : Result ℤ PlusEnd)

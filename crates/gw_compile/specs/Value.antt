@@ -90,10 +90,14 @@ abbrev mutual
   value_of n scope p env locals (Attribute sna) = attribute_value p env (attribute_in n sna)
   value_of n scope p env locals (Parentheses' x e) = value_of n scope p env locals e
   value_of n scope p env locals (Unary' operator x a) = with_value (value_of n scope p env locals a) (λ v. arithmetic_value (unary_value operator v))
-  value_of n scope p env locals (Binary' operator x a y b) = with_value (value_of n scope p env locals a) (λ left. with_value (value_of n scope p env locals b) (λ right. arithmetic_value (binary_value operator left right)))
-  value_of n scope p env locals (Call' name shape es) = with_value (values_of n scope p env locals es) (λ vs. call_value p env (n.procedure (string_bytes name)) vs)
+  value_of n scope p env locals (Binary' operator x a y b) =
+      with_value (value_of n scope p env locals a)
+      (λ left. with_value (value_of n scope p env locals b) (λ right. arithmetic_value (binary_value operator left right)))
+  value_of n scope p env locals (Call' name shape es) =
+      with_value (values_of n scope p env locals es) (λ vs. call_value p env (n.procedure (string_bytes name)) vs)
 
   -- the values of arguments, in order
   pub values_of : {m : _} → Numbers → Scope → Parts → Environment → List ℤ → Row_of-Expression m → Came (List ℤ)
   values_of n scope p env locals end_of-Expression = comes []
-  values_of n scope p env locals (more_of-Expression e es) = with_value (value_of n scope p env locals e) (λ v. with_value (values_of n scope p env locals es) (λ vs. comes (v ∷ vs)))
+  values_of n scope p env locals (more_of-Expression e es) =
+      with_value (value_of n scope p env locals e) (λ v. with_value (values_of n scope p env locals es) (λ vs. comes (v ∷ vs)))

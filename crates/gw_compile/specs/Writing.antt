@@ -10,7 +10,8 @@ use Rattle.gw_text_plus.specs.declared.model.PlusStatement.{PlusStatement}
 use Rattle.gw_compile.specs.declared.faults.CompileFault.{CompileFault}
 use Rattle.gw_compile.specs.Numbers.{Numbers, Scope}
 use Rattle.gw_compile.specs.Scope.{scope_of}
-use Rattle.gw_compile.specs.Statements.{Piece, IsWritten, JudgesPiece, assign_piece, return_piece, piece, reached_piece, sequence, if_without_else, while_piece, target, turns, when}
+use Rattle.gw_compile.specs.Statements.{Piece, IsWritten, JudgesPiece, assign_piece, return_piece, piece, reached_piece, sequence, if_without_else}
+use Rattle.gw_compile.specs.Statements.{while_piece, target, turns, when}
 use Rattle.gw_compile.specs.Unknown.{Judges}
 
 -- JUMPS
@@ -53,7 +54,8 @@ module _ {E : Type 0} (result : Result Bool E) (old new : Vec Instruction Global
   Returns value = Extends result old new (scope_of locals) (return_behind n locals old value)
 
 -- RETURN is written but for its last instruction
-abbrev pub EmitsValue : {A E : Type 0} → Result A E → Vec Instruction Global → Vec Instruction Global → Numbers → List (Bor (List ℕ)) → Option Expression → Type 0
+abbrev pub EmitsValue : {A E : Type 0} → Result A E → Vec Instruction Global → Vec Instruction Global → Numbers → List (Bor (List ℕ))
+    → Option Expression → Type 0
 EmitsValue result old new n locals value = OnOk result (new.items ++ Return ∷ [] ≡ old.items ++ (return_behind n locals old value).code)
 
 module _ {A : Type 0} (answer : Result A CompileFault) (code : Vec Instruction Global) (n : Numbers) (locals : List (Bor (List ℕ))) where

@@ -7,7 +7,8 @@ use Rattle.gw_console.specs.Input.{TakesSome}
 use Rattle.gw_console.specs.Calls.{LosesFront, LosesAtMost}
 
 -- a reader that is at its end gave all of its bytes
-pub ended : (most : ℕ) (before after : Option (List ℕ)) (got : List ℕ) → length got ≤ most → Consumes before after got → IsAtEnd after → IfSome before (λ xs. got ≡ take most xs)
+pub ended : (most : ℕ) (before after : Option (List ℕ)) (got : List ℕ) → length got ≤ most → Consumes before after got → IsAtEnd after
+    → IfSome before (λ xs. got ≡ take most xs)
 ended most None after got short taken end = tt
 ended most (Some xs) None got short taken end = absurd taken
 ended most (Some xs) (Some ys) got short taken end =
@@ -15,30 +16,35 @@ ended most (Some xs) (Some ys) got short taken end =
     rw all (sym (take_all most got short))
 
 -- a reader that gave so many bytes gave the front of its bytes
-pub filled : (most : ℕ) (before after : Option (List ℕ)) (got : List ℕ) → length got ≡ most → Consumes before after got → IfSome before (λ xs. got ≡ take most xs)
+pub filled : (most : ℕ) (before after : Option (List ℕ)) (got : List ℕ) → length got ≡ most → Consumes before after got
+    → IfSome before (λ xs. got ≡ take most xs)
 filled most None after got full taken = tt
 filled most (Some xs) None got full taken = absurd taken
 filled most (Some xs) (Some ys) got full taken = rw taken (sym (take_at got ys most full))
 
 -- the bytes of one more read, behind those so far
-pub more : (n most : ℕ) (old new : List ℕ) (before between after : Option (List ℕ)) → TakesSome n most old new between after → Consumes before between old → Consumes before after new
+pub more : (n most : ℕ) (old new : List ℕ) (before between after : Option (List ℕ)) → TakesSome n most old new between after
+    → Consumes before between old → Consumes before after new
 more n most old new before between after h taken = rw h.grown (Consumes-trans before between after old h.bytes taken h.taken)
 
 -- the last read, which gave nothing
-pub last_read : (n most limit : ℕ) (old new : List ℕ) (before between after : Option (List ℕ)) → TakesSome n most old new between after → n ≡ 0 → length old ≤ limit
+pub last_read : (n most limit : ℕ) (old new : List ℕ) (before between after : Option (List ℕ)) → TakesSome n most old new between after → n
+    ≡ 0 → length old ≤ limit
     → Consumes before between old → IfSome before (λ xs. new ≡ take limit xs)
 last_read n most limit old new before between after h none short taken =
     let long : length new ≤ limit = omega (arith, ap (λ (l : List ℕ). length l) h.grown, length-append old h.bytes, h.count) in
     ended limit before after new long (more n most old new before between after h taken) (h.end none)
 
 -- the bytes that one more call took, behind those so far, are within the limit
-pub lost_more : (most rest : ℕ) (old : List ℕ) (before between after : Option (List ℕ)) → length old + rest ≤ most → Consumes before between old → LosesAtMost rest between after
+pub lost_more : (most rest : ℕ) (old : List ℕ) (before between after : Option (List ℕ)) → length old + rest ≤ most
+    → Consumes before between old → LosesAtMost rest between after
     → LosesAtMost most before after
 lost_more most rest old before between after fits taken lost =
     (old ++ lost.0, omega (arith, fits, length-append old lost.0, lost.1), Consumes-trans before between after old lost.0 taken lost.2)
 
 -- a reader that gave its front has lost it
-pub front_lost : (most : ℕ) (before after : Option (List ℕ)) (got : List ℕ) → IfSome before (λ bytes. got ≡ take most bytes) → Consumes before after got → LosesFront most before after
+pub front_lost : (most : ℕ) (before after : Option (List ℕ)) (got : List ℕ) → IfSome before (λ bytes. got ≡ take most bytes)
+    → Consumes before after got → LosesFront most before after
 front_lost most None after got front taken = tt
 front_lost most (Some xs) after got front taken = subst (Consumes (Some xs) after) front taken
 

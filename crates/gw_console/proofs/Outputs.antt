@@ -22,11 +22,13 @@ abbrev pub IsEnd : ℕ → Type 0
 IsEnd status = (status ≡ end_status) ⊎ (status ≡ refusal_status)
 
 -- those of a run, of a check and of an assembly
-run_status : (r : Result Job Fault) (text : List ℕ) (status : ℕ) → MatchResult r (λ j. Concludes j text status) (λ fault. (status ≡ refusal_status) × (text ≡ refusal_line fault)) → IsEnd status
+run_status : (r : Result Job Fault) (text : List ℕ) (status : ℕ)
+    → MatchResult r (λ j. Concludes j text status) (λ fault. (status ≡ refusal_status) × (text ≡ refusal_line fault)) → IsEnd status
 run_status (Ok j) text status h = inl h.0
 run_status (Err fault) text status h = inr h.0
 
-check_status : (r : Result Parts Fault) (text : List ℕ) (status : ℕ) → MatchResult r (λ p. (status ≡ end_status) × (text ≡ accepted_line p)) (λ fault. (status ≡ refusal_status) × (text ≡ refusal_line fault)) → IsEnd status
+check_status : (r : Result Parts Fault) (text : List ℕ) (status : ℕ)
+    → MatchResult r (λ p. (status ≡ end_status) × (text ≡ accepted_line p)) (λ fault. (status ≡ refusal_status) × (text ≡ refusal_line fault)) → IsEnd status
 check_status (Ok p) text status h = inl h.0
 check_status (Err fault) text status h = inr h.0
 
@@ -67,7 +69,8 @@ of_memory : (status : ℕ) → status ≡ no_memory → Statuses status
 of_memory status h = (3, omega arith, sym h)
 
 module _ (Answers : Answering) (ends : Ends Answers) (known : Option (List ℕ)) where
-  pub answer_statuses : (r : Result Answer ProgramFault) → IfOk r (λ a. AnswersReader Answers known a.text.items a.status) → IfOk r (λ a. (a.status ≡ end_status) ⊎ (a.status ≡ refusal_status))
+  pub answer_statuses : (r : Result Answer ProgramFault) → IfOk r (λ a. AnswersReader Answers known a.text.items a.status)
+      → IfOk r (λ a. (a.status ≡ end_status) ⊎ (a.status ≡ refusal_status))
   answer_statuses (Ok a) answer = ends answer.0 a.text.items a.status answer.2
   answer_statuses (Err fault) answer = tt
 

@@ -1,5 +1,6 @@
 -- What the program tells of its calls of the reader and of the writer.
-use Rattle.std.specs.Prelude.{◌≡◌, ◌≢◌, ◌≤◌, ◌+◌, ◌↔◌, ◌⊎◌, ℕ, List, length, take, Option, IfSome, Bool, true, false, ◌||◌, IsTrue, Result, Ok, Err, if◌then◌else◌}
+use Rattle.std.specs.Prelude.{◌≡◌, ◌≢◌, ◌≤◌, ◌+◌, ◌↔◌, ◌⊎◌, ℕ, List, length, take, Option, IfSome, Bool, true, false, ◌||◌, IsTrue, Result, Ok, Err}
+use Rattle.std.specs.Prelude.{if◌then◌else◌}
 use Rattle.std.specs.Io.KnownBytes.{Consumes, Keeps}
 use Rattle.gw_object.specs.declared.limits.TheConstants.{MOST_BYTES}
 use Rattle.gw_streams.specs.Streams.{Source, Sink}
@@ -34,7 +35,8 @@ wanted_status (Err Write) = failure_status
 abbrev pub EndsWith : ℕ → ℕ → Bool → Type 0
 EndsWith wanted result has_failed = result ≡ (if has_failed then failure_status else wanted)
 
--- What a status tells of the calls of a reader and of a writer, from how the two were, when no call had failed, to how they are: where all is read so, in at most so many bytes.
+-- What a status tells of the calls of a reader and of a writer, from how the two were, when no call had failed, to how
+-- they are: where all is read so, in at most so many bytes.
 pub record Account (AllRead : Option (List ℕ) → Option (List ℕ) → Type 0) (most : ℕ) (status : ℕ) (from to : Source) (old new : Sink) : Type 0 where
   -- it is 3 exactly where a call failed
   pub failure : (status ≡ failure_status) ↔ IsTrue (to.failed || new.failed)

@@ -15,7 +15,8 @@ module _ {T : Type 0} (after : ℕ → T → T) where
 
   -- THE TABLE THAT A MODEL SHOWS
 
-  module _ (passed : ℕ) (kept : List (Kept T)) (n : ByNumber T) (is : record { values = values passed kept; passed = passed } ≡ n) (k : ℕ) (there : k < length n.values) where
+  module _ (passed : ℕ) (kept : List (Kept T)) (n : ByNumber T) (is : record { values = values passed kept; passed = passed } ≡ n) (k : ℕ)
+      (there : k < length n.values) where
     within : k < length kept
     within = omega (arith, there, length-map kept (today after passed), ap (λ (m : ByNumber T). length m.values) is)
 
@@ -39,7 +40,8 @@ module _ {T : Type 0} (after : ℕ → T → T) where
   -- TIME PASSES
 
   module _ (Fits : ℕ → T → Type 0) (passed dt : ℕ) where
-    pub passes : ((a b : ℕ) (v : T) → after b (after a v) ≡ after (a + b) v) → (kept : List (Kept T)) → All (IsKept Fits passed) kept → values (passed + dt) kept ≡ map (after dt) (values passed kept)
+    pub passes : ((a b : ℕ) (v : T) → after b (after a v) ≡ after (a + b) v) → (kept : List (Kept T)) → All (IsKept Fits passed) kept
+        → values (passed + dt) kept ≡ map (after dt) (values passed kept)
     passes in_parts [] all = refl
     passes in_parts (k ∷ kept) all =
         let first = All-head (IsKept Fits passed) k kept all in

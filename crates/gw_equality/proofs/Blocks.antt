@@ -68,7 +68,8 @@ pub entity_attribute_only : OnlyEqual entity_attribute_eq.ghosts.eq
 entity_attribute_only = same_true entity_attribute_type.the_type tt
 
 pub numbered_only : OnlyEqual numbered_eq.ghosts.eq
-numbered_only = of_fields (λ (x : Numbered). (x.attribute, x.number)) (λ f. record { attribute = f.0; number = f.1 }) (λ x i. x) (entity_attribute_only ⊗ nat_only)
+numbered_only = of_fields (λ (x : Numbered). (x.attribute, x.number)) (λ f. record { attribute = f.0; number = f.1 }) (λ x i. x)
+    (entity_attribute_only ⊗ nat_only)
 
 pub operand_only : OnlyEqual operand_eq.ghosts.eq
 operand_only = of_choices operand_type.enum (int_only ⊕ nat_only ⊕ attribute_only ⊕ numbered_only ⊕ nat_only ⊕ nat_only ⊕ no_more)
@@ -82,7 +83,9 @@ pub spread_only : OnlyEqual spread_eq.ghosts.eq
 spread_only = of_fields (λ (x : Spread). (x.mean, x.half)) (λ f. record { mean = f.0; half = f.1 }) (λ x i. x) (operand_only ⊗ operand_only)
 
 pub generate_only : OnlyEqual generate_eq.ghosts.eq
-generate_only = of_fields (λ (x : Generate). (x.interval, (x.first, (x.limit, x.priority)))) (λ f. record { interval = f.0; first = f.1.0; limit = f.1.1.0; priority = f.1.1.1 }) (λ x i. x) (spread_only ⊗ option_only int_only ⊗ option_only nat_only ⊗ int_only)
+generate_only = of_fields (λ (x : Generate). (x.interval, (x.first, (x.limit, x.priority))))
+    (λ f. record { interval = f.0; first = f.1.0; limit = f.1.1.0; priority = f.1.1.1 }) (λ x i. x)
+    (spread_only ⊗ option_only int_only ⊗ option_only nat_only ⊗ int_only)
 
 pub units_only : OnlyEqual units_eq.ghosts.eq
 units_only = of_fields (λ (x : Units). (x.entity, x.number)) (λ f. record { entity = f.0; number = f.1 }) (λ x i. x) (nat_only ⊗ nat_only)
@@ -91,10 +94,12 @@ pub mode_only : OnlyEqual mode_eq.ghosts.eq
 mode_only = same_true mode_type.the_type tt
 
 pub assign_only : OnlyEqual assign_eq.ghosts.eq
-assign_only = of_fields (λ (x : Assign). (x.parameter, (x.mode, x.value))) (λ f. record { parameter = f.0; mode = f.1.0; value = f.1.1 }) (λ x i. x) (nat_only ⊗ mode_only ⊗ operand_only)
+assign_only = of_fields (λ (x : Assign). (x.parameter, (x.mode, x.value))) (λ f. record { parameter = f.0; mode = f.1.0; value = f.1.1 })
+    (λ x i. x) (nat_only ⊗ mode_only ⊗ operand_only)
 
 pub save_only : OnlyEqual save_eq.ghosts.eq
-save_only = of_fields (λ (x : Save). (x.savevalue, (x.mode, x.value))) (λ f. record { savevalue = f.0; mode = f.1.0; value = f.1.1 }) (λ x i. x) (nat_only ⊗ mode_only ⊗ operand_only)
+save_only = of_fields (λ (x : Save). (x.savevalue, (x.mode, x.value))) (λ f. record { savevalue = f.0; mode = f.1.0; value = f.1.1 })
+    (λ x i. x) (nat_only ⊗ mode_only ⊗ operand_only)
 
 pub plus_only : OnlyEqual plus_eq.ghosts.eq
 plus_only = of_fields (λ (x : Plus). (x.value, x.parameter)) (λ f. record { value = f.0; parameter = f.1 }) (λ x i. x) (operand_only ⊗ option_only nat_only)
@@ -108,13 +113,16 @@ pub comparison_only : OnlyEqual comparison_eq.ghosts.eq
 comparison_only = same_true comparison_type.the_type tt
 
 pub test_only : OnlyEqual test_eq.ghosts.eq
-test_only = of_fields (λ (x : Test). (x.comparison, (x.left, (x.right, x.otherwise)))) (λ f. record { comparison = f.0; left = f.1.0; right = f.1.1.0; otherwise = f.1.1.1 }) (λ x i. x) (comparison_only ⊗ operand_only ⊗ operand_only ⊗ option_only nat_only)
+test_only = of_fields (λ (x : Test). (x.comparison, (x.left, (x.right, x.otherwise))))
+    (λ f. record { comparison = f.0; left = f.1.0; right = f.1.1.0; otherwise = f.1.1.1 }) (λ x i. x)
+    (comparison_only ⊗ operand_only ⊗ operand_only ⊗ option_only nat_only)
 
 pub condition_only : OnlyEqual condition_eq.ghosts.eq
 condition_only = same_true condition_type.the_type tt
 
 pub gate_only : OnlyEqual gate_eq.ghosts.eq
-gate_only = of_fields (λ (x : Gate). (x.condition, (x.entity, x.otherwise))) (λ f. record { condition = f.0; entity = f.1.0; otherwise = f.1.1 }) (λ x i. x) (condition_only ⊗ nat_only ⊗ option_only nat_only)
+gate_only = of_fields (λ (x : Gate). (x.condition, (x.entity, x.otherwise)))
+    (λ f. record { condition = f.0; entity = f.1.0; otherwise = f.1.1 }) (λ x i. x) (condition_only ⊗ nat_only ⊗ option_only nat_only)
 
 pub switch_action_only : OnlyEqual switch_action_eq.ghosts.eq
 switch_action_only = same_true switch_action_type.the_type tt
@@ -125,7 +133,8 @@ logic_only = of_fields (λ (x : Logic). (x.action, x.switch)) (λ f. record { ac
 -- WAYS AND COPIES
 
 pub fraction_only : OnlyEqual fraction_eq.ghosts.eq
-fraction_only = of_fields (λ (x : Fraction). (x.thousandths, (x.otherwise, x.target))) (λ f. record { thousandths = f.0; otherwise = f.1.0; target = f.1.1 }) (λ x i. x) (nat_only ⊗ option_only nat_only ⊗ nat_only)
+fraction_only = of_fields (λ (x : Fraction). (x.thousandths, (x.otherwise, x.target)))
+    (λ f. record { thousandths = f.0; otherwise = f.1.0; target = f.1.1 }) (λ x i. x) (nat_only ⊗ option_only nat_only ⊗ nat_only)
 
 pub both_only : OnlyEqual both_eq.ghosts.eq
 both_only = of_fields (λ (x : Both). (x.first, x.second)) (λ f. record { first = f.0; second = f.1 }) (λ x i. x) (option_only nat_only ⊗ nat_only)
@@ -148,7 +157,8 @@ pub link_only : OnlyEqual link_eq.ghosts.eq
 link_only = of_fields (λ (x : Link). (x.chain, x.order)) (λ f. record { chain = f.0; order = f.1 }) (λ x i. x) (nat_only ⊗ link_order_only)
 
 pub unlink_only : OnlyEqual unlink_eq.ghosts.eq
-unlink_only = of_fields (λ (x : Unlink). (x.chain, (x.target, x.most))) (λ f. record { chain = f.0; target = f.1.0; most = f.1.1 }) (λ x i. x) (nat_only ⊗ nat_only ⊗ option_only nat_only)
+unlink_only = of_fields (λ (x : Unlink). (x.chain, (x.target, x.most))) (λ f. record { chain = f.0; target = f.1.0; most = f.1.1 })
+    (λ x i. x) (nat_only ⊗ nat_only ⊗ option_only nat_only)
 
 -- BLOCKS
 

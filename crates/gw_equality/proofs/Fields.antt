@@ -55,7 +55,8 @@ pub ◌⊗◌ : {A B : Type 0} {E : A → A → Bool} {F : B → B → Bool} →
     λ i. (first i, rest i)
 
 -- two values of a struct that have the same fields are equal
-pub of_fields : {K T : Type 0} {E : T → T → Bool} (fields : K → T) (of : T → K) → ((x : K) → of (fields x) ≡ x) → OnlyEqual E → OnlyEqual (λ (x y : K). E (fields x) (fields y))
+pub of_fields : {K T : Type 0} {E : T → T → Bool} (fields : K → T) (of : T → K) → ((x : K) → of (fields x) ≡ x) → OnlyEqual E
+    → OnlyEqual (λ (x y : K). E (fields x) (fields y))
 of_fields fields of whole only x y h = sym (whole x) ∙ ap of (only (fields x) (fields y) h) ∙ whole y
 
 -- ENUMS: a value is the choice of a variant, with its fields; `==` tests whether both choose the first variant, and else goes on among the others

@@ -30,13 +30,15 @@ use Rattle.gw_object.specs.contracts.parts.PartsEq.TheImpl.Laws as parts_laws
 -- ENTITIES
 
 pub table_only : OnlyEqual table_eq.ghosts.eq
-table_only = of_fields (λ (x : Table). (x.argument, (x.limit, (x.width, x.classes)))) (λ f. record { argument = f.0; limit = f.1.0; width = f.1.1.0; classes = f.1.1.1 }) (λ x i. x) (operand_only ⊗ int_only ⊗ nat_only ⊗ nat_only)
+table_only = of_fields (λ (x : Table). (x.argument, (x.limit, (x.width, x.classes))))
+    (λ f. record { argument = f.0; limit = f.1.0; width = f.1.1.0; classes = f.1.1.1 }) (λ x i. x) (operand_only ⊗ int_only ⊗ nat_only ⊗ nat_only)
 
 pub point_only : OnlyEqual point_eq.ghosts.eq
 point_only = of_fields (λ (x : Point). (x.x, x.y)) (λ f. record { x = f.0; y = f.1 }) (λ x i. x) (int_only ⊗ int_only)
 
 pub function_only : OnlyEqual function_eq.ghosts.eq
-function_only = of_fields (λ (x : Function). (x.argument, x.points)) (λ f. record { argument = f.0; points = f.1 }) (λ x i. x) (operand_only ⊗ list_only point_only)
+function_only = of_fields (λ (x : Function). (x.argument, x.points)) (λ f. record { argument = f.0; points = f.1 }) (λ x i. x)
+    (operand_only ⊗ list_only point_only)
 
 pub kind_only : OnlyEqual kind_eq.ghosts.eq
 kind_only = of_choices kind_type.enum (bare (nat_only ⊕ bare (bool_only ⊕ int_only ⊕ table_only ⊕ bare (nat_only ⊕ nat_only ⊕ function_only ⊕ no_more))))
@@ -59,7 +61,9 @@ pub return_row_only : OnlyEqual return_row_eq.ghosts.eq
 return_row_only = of_fields (λ (x : ReturnRow). x.blocks) (λ f. record { blocks = f }) (λ x i. x) (list_only nat_only)
 
 pub table_state_only : OnlyEqual table_state_eq.ghosts.eq
-table_state_only = of_fields (λ (x : TableState). (x.parameters, (x.facilities, x.units))) (λ f. record { parameters = f.0; facilities = f.1.0; units = f.1.1 }) (λ x i. x) (list_only table_parameter_only ⊗ list_only nat_only ⊗ list_only units_only)
+table_state_only = of_fields (λ (x : TableState). (x.parameters, (x.facilities, x.units)))
+    (λ f. record { parameters = f.0; facilities = f.1.0; units = f.1.1 }) (λ x i. x)
+    (list_only table_parameter_only ⊗ list_only nat_only ⊗ list_only units_only)
 
 pub state_apart : TellsApart same_state
 state_apart = apart state_laws.laws-law table_state_only
@@ -68,8 +72,27 @@ state_apart = apart state_laws.laws-law table_state_only
 
 pub parts_only : OnlyEqual parts_eq.ghosts.eq
 parts_only = of_fields
-    (λ (x : Parts). (x.version, (x.seeds, (x.count, (x.entities, (x.procedures, (x.blocks, (x.returns, (x.states, (x.chain_states, (x.weights, (x.slopes, x.chain_weights))))))))))))
-    (λ f. record { version = f.0; seeds = f.1.0; count = f.1.1.0; entities = f.1.1.1.0; procedures = f.1.1.1.1.0; blocks = f.1.1.1.1.1.0; returns = f.1.1.1.1.1.1.0; states = f.1.1.1.1.1.1.1.0; chain_states = f.1.1.1.1.1.1.1.1.0; weights = f.1.1.1.1.1.1.1.1.1.0; slopes = f.1.1.1.1.1.1.1.1.1.1.0; chain_weights = f.1.1.1.1.1.1.1.1.1.1.1 }) (λ x i. x) (nat_only ⊗ list_only nat_only ⊗ nat_only ⊗ list_only entity_only ⊗ list_only procedure_only ⊗ list_only block_only ⊗ list_only return_row_only ⊗ list_only (option_only table_state_only) ⊗ list_only (option_only table_state_only) ⊗ list_only nat_only ⊗ list_only (option_only (nat_only ⊗ nat_only)) ⊗ list_only nat_only)
+    (λ (x : Parts). (
+      x.version,
+      (x.seeds, (x.count, (x.entities, (x.procedures, (x.blocks, (x.returns, (x.states, (x.chain_states, (x.weights, (x.slopes, x.chain_weights)))))))))),
+    ))
+    (λ f. record {
+      version = f.0;
+      seeds = f.1.0;
+      count = f.1.1.0;
+      entities = f.1.1.1.0;
+      procedures = f.1.1.1.1.0;
+      blocks = f.1.1.1.1.1.0;
+      returns = f.1.1.1.1.1.1.0;
+      states = f.1.1.1.1.1.1.1.0;
+      chain_states = f.1.1.1.1.1.1.1.1.0;
+      weights = f.1.1.1.1.1.1.1.1.1.0;
+      slopes = f.1.1.1.1.1.1.1.1.1.1.0;
+      chain_weights = f.1.1.1.1.1.1.1.1.1.1.1;
+    }) (λ x i. x)
+    (nat_only ⊗ list_only nat_only ⊗ nat_only ⊗ list_only entity_only ⊗ list_only procedure_only ⊗ list_only block_only ⊗ list_only
+    return_row_only ⊗ list_only (option_only table_state_only) ⊗ list_only (option_only table_state_only) ⊗ list_only nat_only ⊗
+    list_only (option_only (nat_only ⊗ nat_only)) ⊗ list_only nat_only)
 
 pub parts_apart : TellsApart same_parts
 parts_apart = apart parts_laws.laws-law parts_only

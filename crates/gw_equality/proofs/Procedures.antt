@@ -31,13 +31,16 @@ pub back_only : OnlyEqual back_eq.ghosts.eq
 back_only = of_fields (λ (x : Back). (x.target, x.count)) (λ f. record { target = f.0; count = f.1 }) (λ x i. x) (nat_only ⊗ nat_only)
 
 pub instruction_only : OnlyEqual instruction_eq.ghosts.eq
-instruction_only = of_choices instruction_type.enum (int_only ⊕ nat_only ⊕ nat_only ⊕ sna_only ⊕ binary_only ⊕ unary_only ⊕ bare (nat_only ⊕ nat_only ⊕ back_only ⊕ nat_only ⊕ bare no_more))
+instruction_only = of_choices instruction_type.enum
+    (int_only ⊕ nat_only ⊕ nat_only ⊕ sna_only ⊕ binary_only ⊕ unary_only ⊕ bare (nat_only ⊕ nat_only ⊕ back_only ⊕ nat_only ⊕ bare no_more))
 
 pub instruction_apart : TellsApart same_instruction
 instruction_apart = apart instruction_laws.laws-law instruction_only
 
 pub procedure_only : OnlyEqual procedure_eq.ghosts.eq
-procedure_only = of_fields (λ (x : Procedure). (x.arguments, (x.locals, (x.needs, x.code)))) (λ f. record { arguments = f.0; locals = f.1.0; needs = f.1.1.0; code = f.1.1.1 }) (λ x i. x) (nat_only ⊗ nat_only ⊗ list_only nat_only ⊗ list_only instruction_only)
+procedure_only = of_fields (λ (x : Procedure). (x.arguments, (x.locals, (x.needs, x.code))))
+    (λ f. record { arguments = f.0; locals = f.1.0; needs = f.1.1.0; code = f.1.1.1 }) (λ x i. x)
+    (nat_only ⊗ nat_only ⊗ list_only nat_only ⊗ list_only instruction_only)
 
 pub procedure_apart : TellsApart same_procedure
 procedure_apart = apart procedure_laws.laws-law procedure_only

@@ -42,7 +42,8 @@ first_jobs (suc n) jobs shares some =
 
 pub all_jobs : SharesAreAllJobs
 all_jobs jobs shares some =
-    let all : shares * jobs / shares ≡ jobs = let turned : shares * jobs ≡ jobs * shares + 0 = omega arith in ap (λ n. n / shares) turned ∙ div-mul-add jobs shares 0 some in
+    let all : shares * jobs / shares ≡ jobs = let turned : shares * jobs ≡ jobs * shares + 0 = omega arith in ap (λ n. n / shares) turned
+    ∙ div-mul-add jobs shares 0 some in
     first_jobs shares jobs shares some ∙ ap (range_with_len 0) all
 
 pub runs_of_jobs : RunsAreJobs

@@ -5,12 +5,14 @@ use Rattle.gw_explain.specs.declared.advice.TheConstants.{ADVICE}
 use Rattle.gw_explain.specs.Codes.{words_in, advice_words, is_code}
 
 -- the first row, or one behind it
-either : {X : Type 0} (b : Bool) (words : X) (others : Option X) (is_there : Bool) → is_some others ≡ is_there → is_some (if b then Some words else others) ≡ (b || is_there)
+either : {X : Type 0} (b : Bool) (words : X) (others : Option X) (is_there : Bool) → is_some others ≡ is_there
+    → is_some (if b then Some words else others) ≡ (b || is_there)
 either true words others is_there h = refl
 either false words others is_there h = h
 
 -- there are words where a row has the code
-some : {R : Type 0} (key : R → ℕ) (words : R → List ℕ × List ℕ) (rows : List R) (code : ℕ) → is_some (words_in key words rows code) ≡ list_any (λ row. key row == code) rows
+some : {R : Type 0} (key : R → ℕ) (words : R → List ℕ × List ℕ) (rows : List R) (code : ℕ) → is_some (words_in key words rows code)
+    ≡ list_any (λ row. key row == code) rows
 some key words [] code = refl
 some key words (row ∷ rows) code = either (key row == code) _ _ _ (some key words rows code)
 

@@ -7,7 +7,8 @@ use Rattle.gw_answers.specs.Refusal.{refusal_line, code_name}
 use Rattle.gw_explain.specs.Meaning.{code_line}
 
 -- behind the first word a number and a name stand
-shortened : (number name line : List ℕ) → line ≡ codes "refused " ++ number ++ codes " " ++ name ++ [] ++ codes "\n" → drop 8 line ≡ number ++ codes " " ++ name ++ codes "\n"
+shortened : (number name line : List ℕ) → line ≡ codes "refused " ++ number ++ codes " " ++ name ++ [] ++ codes "\n" → drop 8 line ≡ number
+    ++ codes " " ++ name ++ codes "\n"
 shortened number name line is = ap (drop 8) is ∙ ap (λ x. x ++ codes "\n") (append-nil (number ++ codes " " ++ name))
 
 -- the first word is there

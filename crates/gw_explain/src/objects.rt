@@ -9,7 +9,7 @@ ghost use Rattle.gw_explain.specs.Explanation.{Begins, IsAdvised, IsExplainedObj
 use crate::facts::known_in_object;
 use crate::meaning::put_advice;
 use crate::summary::object_summary;
-use gw_answers::{Answer, NoJob, Refusal, answer_acceptance, accepted_in, answer_refusal};
+use gw_answers::{Answer, NoJob, Refusal, accepted_in, answer_acceptance, answer_refusal};
 use gw_object::{Fault, Memory};
 use gw_rules::Verified;
 use std::alloc::Global;

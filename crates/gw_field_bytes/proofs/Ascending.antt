@@ -1,5 +1,6 @@
 -- Lists whose elements begin with keys that ascend, in an order of the keys.
-use Rattle.std.proofs.Common.{◌≡◌, ℕ, ◌-◌, ◌+◌, ◌<◌, suc, Bool, IsTrue, List, [], ◌∷◌, ◌++◌, length, get_or, slice_get, Option, Some, Decides, refl, sym, subst, append_assoc, arith, inl, inr}
+use Rattle.std.proofs.Common.{◌≡◌, ℕ, ◌-◌, ◌+◌, ◌<◌, suc, Bool, IsTrue, List, [], ◌∷◌, ◌++◌, length, get_or, slice_get, Option, Some, Decides, refl}
+use Rattle.std.proofs.Common.{sym, subst, append_assoc, arith, inl, inr}
 use Rattle.std.specs.Prelude.{nat_lt, int_lt, ◌<ℤ◌}
 use Rattle.std.specs.List.{All, AllPairs}
 use Rattle.std.specs.Option.{option_map}
@@ -36,12 +37,19 @@ int_order = record { decides = λ a b. (λ h. omega (arith, ints), λ h. grind (
 abbrev last_key : {K A : Type 0} → (A → K) → List A → Option K
 last_key key front = option_map key (slice_get front (length front - 1))
 
-pub ascending_exact : {K A B : Type 0} (is_below : K → K → Bool) (make : K × B → A) (back : A → K × B) (key : Field K) (f : Field B) → ((x : K × B) → back (make x) ≡ x) → ((y : A) → make (back y) ≡ y) → IsExact key → IsExact f
+pub ascending_exact : {K A B : Type 0} (is_below : K → K → Bool) (make : K × B → A) (back : A → K × B) (key : Field K) (f : Field B)
+    → ((x : K × B) → back (make x) ≡ x) → ((y : A) → make (back y) ≡ y) → IsExact key → IsExact f
     → IsExactElement (ascending_element is_below make back key f)
 ascending_exact {K} {A} is_below make back key f there here key_exact exact =
     let test = λ (front : List A). is_above is_below (last_key (λ x. (back x).0) front) in
-    let at = λ (front : List A). made_exact make back (both (field_with_test (test front) codes.not_canonical key) f) (λ x h. there x) (λ y h. here y) (both_exact _ _ (tested_exact (test front) codes.not_canonical key key_exact) exact) in
-    record { takes = λ front left. (at front).takes; again = λ front left. (at front).again; within = λ front left. (at front).within; cut = λ front left. (at front).cut }
+    let at = λ (front : List A). made_exact make back (both (field_with_test (test front) codes.not_canonical key) f) (λ x h. there x)
+    (λ y h. here y) (both_exact _ _ (tested_exact (test front) codes.not_canonical key key_exact) exact) in
+    record {
+      takes = λ front left. (at front).takes;
+      again = λ front left. (at front).again;
+      within = λ front left. (at front).within;
+      cut = λ front left. (at front).cut;
+    }
 
 module _ {K : Type 0} {is_below : K → K → Bool} {Below : K → K → Type 0} (order : IsOrder is_below Below) where
   module _ {A : Type 0} (key : A → K) where
@@ -63,7 +71,8 @@ module _ {K : Type 0} {is_below : K → K → Bool} {Below : K → K → Type 0}
         ]
 
     -- a key above the last of those that ascend is above all of them
-    above_all : (front : List A) (k : K) → AscendBelow front (length front) → IsTrue (is_above is_below (last_key key front) k) → (i : ℕ) (d : A) → i < length front → Below (key (get_or front i d)) k
+    above_all : (front : List A) (k : K) → AscendBelow front (length front) → IsTrue (is_above is_below (last_key key front) k)
+        → (i : ℕ) (d : A) → i < length front → Below (key (get_or front i d)) k
     above_all front k up test i d lt =
         let found : slice_get front (length front - 1) ≡ Some (get_or front (length front - 1) d) = slice_get-get_or front (length front - 1) d (omega arith) in
         let last : Below (key (get_or front (length front - 1) d)) k = (order.decides _ _).0 (rw found at test) in
@@ -73,7 +82,8 @@ module _ {K : Type 0} {is_below : K → K → Bool} {Below : K → K → Type 0}
         ]
 
     -- a key above all of these is above the last
-    above_last : (front : List A) (k : K) → ((i : ℕ) (d : A) → i < length front → Below (key (get_or front i d)) k) → IsTrue (is_above is_below (last_key key front) k)
+    above_last : (front : List A) (k : K) → ((i : ℕ) (d : A) → i < length front → Below (key (get_or front i d)) k)
+        → IsTrue (is_above is_below (last_key key front) k)
     above_last [] k above = refl
     above_last (x ∷ xs) k above =
         let at = length (x ∷ xs) - 1 in
@@ -86,13 +96,16 @@ module _ {K : Type 0} {is_below : K → K → Bool} {Below : K → K → Type 0}
     AreAscending a b = Below (back a).0 (back b).0
 
     -- what fits a list of ascending elements ascends
-    pub ascends : (xs front : List A) → AllPairs AreAscending front → ElementsFit (ascending_element is_below make back key f).Fits front xs → AllPairs AreAscending (front ++ xs)
+    pub ascends : (xs front : List A) → AllPairs AreAscending front
+        → ElementsFit (ascending_element is_below make back key f).Fits front xs → AllPairs AreAscending (front ++ xs)
     ascends [] front up h = rw (append-nil front) up
     ascends (x ∷ xs) front up h =
-        subst (AllPairs AreAscending) (append_assoc front (x ∷ []) xs) (ascends xs (front ++ x ∷ []) (all_pairs_push AreAscending front x up (above_all (λ a. (back a).0) front (back x).0 up h.0.0.1)) h.1)
+        subst (AllPairs AreAscending) (append_assoc front (x ∷ []) xs)
+        (ascends xs (front ++ x ∷ []) (all_pairs_push AreAscending front x up (above_all (λ a. (back a).0) front (back x).0 up h.0.0.1)) h.1)
 
     -- elements that fit and ascend fit their list
-    pub ascending_fit : (xs front : List A) → All (λ x. key.Fits (back x).0) xs → All (λ x. f.Fits (back x).1) xs → AllPairs AreAscending (front ++ xs) → ElementsFit (ascending_element is_below make back key f).Fits front xs
+    pub ascending_fit : (xs front : List A) → All (λ x. key.Fits (back x).0) xs → All (λ x. f.Fits (back x).1) xs
+        → AllPairs AreAscending (front ++ xs) → ElementsFit (ascending_element is_below make back key f).Fits front xs
     ascending_fit [] front keys others up = tt
     ascending_fit (x ∷ xs) front keys others up =
         let whole = front ++ x ∷ xs in
@@ -100,5 +113,6 @@ module _ {K : Type 0} {is_below : K → K → Bool} {Below : K → K → Type 0}
         let pair : AreAscending (get_or whole i d) (get_or whole (length front) d) = up i (length front) d lt (omega (arith, length-append front (x ∷ xs))) in
         rw (get_or-append front (x ∷ xs) d i lt, get_or-append_seam front x xs d) at pair in (
           ((keys 0 x (omega arith), above_last (λ a. (back a).0) front (back x).0 before), others 0 x (omega arith)),
-          ascending_fit xs (front ++ x ∷ []) (λ i d lt. keys (suc i) d (omega arith)) (λ i d lt. others (suc i) d (omega arith)) (subst (AllPairs AreAscending) (sym (append_assoc front (x ∷ []) xs)) up),
+          ascending_fit xs (front ++ x ∷ []) (λ i d lt. keys (suc i) d (omega arith)) (λ i d lt. others (suc i) d (omega arith))
+              (subst (AllPairs AreAscending) (sym (append_assoc front (x ∷ []) xs)) up),
         )

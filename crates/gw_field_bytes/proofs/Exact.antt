@@ -1,5 +1,7 @@
 -- Exact fields: what is read is spelled so, what is spelled so is read, a fault lies in the bytes, and bytes that lack some of a spelling are truncated.
-use Rattle.std.proofs.Common.{◌≡◌, ℕ, zero, suc, ◌+◌, ◌^◌, ◌<◌, ◌≤◌, ℤ, Bool, true, false, cond, eqb, ltb, leb, ◌&&◌, IsTrue, List, [], ◌∷◌, ◌++◌, length, get_or, take, drop, Option, Some, None, Result, Ok, Err, refl, sym, ap, subst, ◌∙◌, append_assoc, arith, inl, inr, ◌⊎◌}
+use Rattle.std.proofs.Common.{◌≡◌, ℕ, zero, suc, ◌+◌, ◌^◌, ◌<◌, ◌≤◌, ℤ, Bool, true, false, cond, eqb, ltb, leb, ◌&&◌, IsTrue, List, [], ◌∷◌, ◌++◌}
+use Rattle.std.proofs.Common.{length, get_or, take, drop, Option, Some, None, Result, Ok, Err, refl, sym, ap, subst, ◌∙◌, append_assoc, arith, inl}
+use Rattle.std.proofs.Common.{inr, ◌⊎◌}
 use Rattle.std.specs.Prelude.{IfSome, FitsSigned, IsErrAnd}
 use Rattle.std.specs.List.{All, flat_map}
 use Rattle.std.specs.Int.{Width, w16, w32, w64, byte_len, from_be_bytes, to_be_bytes, cast_signed, cast_unsigned}
@@ -12,7 +14,10 @@ use Rattle.std.proofs.lemmas.List.Concat.{flat_map-cons}
 use Rattle.std.proofs.lemmas.Nat.{be_bytes_2, be_bytes_4, be_bytes_8, from_be_bytes-to_be_bytes_2, from_be_bytes-to_be_bytes_4, from_be_bytes-to_be_bytes_8}
 use Rattle.gw_fields.specs.Codes as codes
 use Rattle.gw_fields.specs.declared.error.Bad.{Bad}
-use Rattle.gw_fields.specs.Fields.{◌>>=◌, Read, IsProperFront, Field, bad, byte, byte_read, number, signed_number, read_as, as_type, field_with_test, and_then, both, field_that_fits, constant, is_within, number_between, nothing, optional, Form, behind, form_read, by_tag, count, count_spelling, count_read, long_count_read, Element, plain, last_tested, elements_read, ElementsFit, elements, list_of, list_read}
+use Rattle.gw_fields.specs.Fields.{◌>>=◌, Read, IsProperFront, Field, bad, byte, byte_read, number, signed_number, read_as, as_type, field_with_test}
+use Rattle.gw_fields.specs.Fields.{and_then, both, field_that_fits, constant, is_within, number_between, nothing, optional, Form, behind, form_read}
+use Rattle.gw_fields.specs.Fields.{by_tag, count, count_spelling, count_read, long_count_read, Element, plain, last_tested, elements_read}
+use Rattle.gw_fields.specs.Fields.{ElementsFit, elements, list_of, list_read}
 
 -- ---- bytes
 
@@ -95,7 +100,8 @@ cut_stays (Ok x) next h = absurd h
 cut_stays (Err e) next h = h
 
 -- a reader that goes on once the text is read
-pub cuts_still : {A B : Type 0} (read : List ℕ → Result A Bad) (next : List ℕ → A → Result B Bad) (text : List ℕ) → CutsFronts read text → CutsFronts (λ bytes. read bytes >>= next bytes) text
+pub cuts_still : {A B : Type 0} (read : List ℕ → Result A Bad) (next : List ℕ → A → Result B Bad) (text : List ℕ) → CutsFronts read text
+    → CutsFronts (λ bytes. read bytes >>= next bytes) text
 cuts_still read next text cuts front begins = cut_stays (read front) (next front) (cuts front begins)
 
 -- no bytes have no proper front
@@ -108,7 +114,8 @@ pub front_tail : (b c : ℕ) (text front : List ℕ) → IsProperFront (c ∷ fr
 front_tail b c text front (rest, more, e) = (cc, (rest, more, cc))
 
 -- where a proper front of two texts ends: in the first, or behind it
-front_ends : (text others front : List ℕ) → IsProperFront front (text ++ others) → IsProperFront front text ⊎ ((behind : List ℕ) × (front ≡ text ++ behind) × IsProperFront behind others)
+front_ends : (text others front : List ℕ) → IsProperFront front (text ++ others) → IsProperFront front text
+    ⊎ ((behind : List ℕ) × (front ≡ text ++ behind) × IsProperFront behind others)
 front_ends [] others front begins = inr (front, refl, begins)
 front_ends (b ∷ text) others [] begins = inl (b ∷ text, (λ e. absurd cc), refl)
 front_ends (b ∷ text) others (c ∷ front) begins =
@@ -119,7 +126,8 @@ front_ends (b ∷ text) others (c ∷ front) begins =
     ]
 
 -- two texts, each with its reader
-cuts_both : {A B : Type 0} (read : List ℕ → Read A) (next : A × List ℕ → Result B Bad) (x : A) (text others : List ℕ) → ((rest : List ℕ) → read (text ++ rest) ≡ Ok (x, rest)) → CutsFronts read text → CutsFronts (λ behind. next (x, behind)) others
+cuts_both : {A B : Type 0} (read : List ℕ → Read A) (next : A × List ℕ → Result B Bad) (x : A) (text others : List ℕ)
+    → ((rest : List ℕ) → read (text ++ rest) ≡ Ok (x, rest)) → CutsFronts read text → CutsFronts (λ behind. next (x, behind)) others
     → CutsFronts (λ bytes. read bytes >>= next) (text ++ others)
 cuts_both read next x text others again cuts cuts_others front begins =
     elim (front_ends text others front begins) [
@@ -144,7 +152,8 @@ pub record IsExact {A : Type 0} (f : Field A) : Type 0 where
 byte_takes : (bytes : List ℕ) (x : ℕ × List ℕ) → IsBytes bytes → byte_read bytes ≡ Ok x → Takes bytes (x.0 ∷ []) x.1 × (x.0 < 256)
 byte_takes [] x fits e = absurd cc
 byte_takes (b ∷ rest) x fits e =
-    subst (λ (y : ℕ × List ℕ). Takes (b ∷ rest) (y.0 ∷ []) y.1 × (y.0 < 256)) (ok_is (b, rest) x e) (record { parts = refl; rest_fits = IsBytes-rest b rest fits }, fits 0)
+    subst (λ (y : ℕ × List ℕ). Takes (b ∷ rest) (y.0 ∷ []) y.1 × (y.0 < 256)) (ok_is (b, rest) x e)
+    (record { parts = refl; rest_fits = IsBytes-rest b rest fits }, fits 0)
 
 byte_within : (bytes : List ℕ) (e : Bad) → IsBytes bytes → byte_read bytes ≡ Err e → e.left ≤ length bytes
 byte_within [] e fits h = rw (← err_is (bad codes.truncation []) e h) (omega arith)
@@ -168,8 +177,10 @@ pub record IsWide (w : Width) : Type 0 where
   pub bits_fit : (z : ℤ) → FitsSigned w z → cast_unsigned w z < 256 ^ byte_len w
 
 -- a width is wide where its bytes are those of its numbers
-wide : (w : Width) → ((n : ℕ) → length (to_be_bytes w n) ≡ byte_len w) → ((bytes : List ℕ) → length bytes ≡ byte_len w → IsBytes bytes → to_be_bytes w (from_be_bytes w bytes) ≡ bytes)
-    → ((n : ℕ) → n < 256 ^ byte_len w → from_be_bytes w (to_be_bytes w n) ≡ n) → ((bytes : List ℕ) → IsBytes bytes → from_be_bytes w bytes < 256 ^ byte_len w) → 256 ^ byte_len w ≡ 2 ^ bits w → IsWide w
+wide : (w : Width) → ((n : ℕ) → length (to_be_bytes w n) ≡ byte_len w)
+    → ((bytes : List ℕ) → length bytes ≡ byte_len w → IsBytes bytes → to_be_bytes w (from_be_bytes w bytes) ≡ bytes)
+    → ((n : ℕ) → n < 256 ^ byte_len w → from_be_bytes w (to_be_bytes w n) ≡ n)
+    → ((bytes : List ℕ) → IsBytes bytes → from_be_bytes w bytes < 256 ^ byte_len w) → 256 ^ byte_len w ≡ 2 ^ bits w → IsWide w
 wide w len back again below most = record {
   len = len;
   back = back;
@@ -181,15 +192,19 @@ wide w len back again below most = record {
 }
 
 pub wide16 : IsWide w16
-wide16 = wide w16 (λ n. refl) (λ bytes len fits. be_bytes_2 bytes _ len fits refl) from_be_bytes-to_be_bytes_2 (λ bytes fits. omega (arith, fits 0, fits 1)) refl
+wide16 = wide w16 (λ n. refl) (λ bytes len fits. be_bytes_2 bytes _ len fits refl) from_be_bytes-to_be_bytes_2
+    (λ bytes fits. omega (arith, fits 0, fits 1)) refl
 
 pub wide32 : IsWide w32
-wide32 = wide w32 (λ n. refl) (λ bytes len fits. be_bytes_4 bytes _ len fits refl) from_be_bytes-to_be_bytes_4 (λ bytes fits. omega (arith, fits 0, fits 1, fits 2, fits 3)) refl
+wide32 = wide w32 (λ n. refl) (λ bytes len fits. be_bytes_4 bytes _ len fits refl) from_be_bytes-to_be_bytes_4
+    (λ bytes fits. omega (arith, fits 0, fits 1, fits 2, fits 3)) refl
 
 pub wide64 : IsWide w64
-wide64 = wide w64 (λ n. refl) (λ bytes len fits. be_bytes_8 bytes _ len fits refl) from_be_bytes-to_be_bytes_8 (λ bytes fits. omega (arith, fits 0, fits 1, fits 2, fits 3, fits 4, fits 5, fits 6, fits 7)) refl
+wide64 = wide w64 (λ n. refl) (λ bytes len fits. be_bytes_8 bytes _ len fits refl) from_be_bytes-to_be_bytes_8
+    (λ bytes fits. omega (arith, fits 0, fits 1, fits 2, fits 3, fits 4, fits 5, fits 6, fits 7)) refl
 
-number_takes : (w : Width) → IsWide w → (bytes : List ℕ) (x : ℕ × List ℕ) → IsBytes bytes → (number w).read bytes ≡ Ok x → Takes bytes (to_be_bytes w x.0) x.1 × (x.0 < 256 ^ byte_len w)
+number_takes : (w : Width) → IsWide w → (bytes : List ℕ) (x : ℕ × List ℕ) → IsBytes bytes → (number w).read bytes ≡ Ok x
+    → Takes bytes (to_be_bytes w x.0) x.1 × (x.0 < 256 ^ byte_len w)
 number_takes w wide bytes x fits e =
     let front = take (byte_len w) bytes in
     let front_fits = IsBytes-take (byte_len w) bytes fits in
@@ -198,8 +213,11 @@ number_takes w wide bytes x fits e =
       | inr long ↦
           let enough : byte_len w ≤ length bytes = ltb-false _ _ long.0 in
           let same : to_be_bytes w (from_be_bytes w front) ≡ front = wide.back front (omega (arith, length-take (byte_len w) bytes)) front_fits in
-          subst (λ (y : ℕ × List ℕ). Takes bytes (to_be_bytes w y.0) y.1 × (y.0 < 256 ^ byte_len w)) (ok_is (from_be_bytes w front, drop (byte_len w) bytes) x long.1)
-          (record { parts = rw same (sym (take-append-drop (byte_len w) bytes)); rest_fits = IsBytes-drop (byte_len w) bytes fits }, wide.below front front_fits)
+          subst (λ (y : ℕ × List ℕ). Takes bytes (to_be_bytes w y.0) y.1 × (y.0 < 256 ^ byte_len w))
+          (ok_is (from_be_bytes w front, drop (byte_len w) bytes) x long.1) (
+            record { parts = rw same (sym (take-append-drop (byte_len w) bytes)); rest_fits = IsBytes-drop (byte_len w) bytes fits },
+            wide.below front front_fits,
+          )
     ]
 
 number_again : (w : Width) → IsWide w → (n : ℕ) (rest : List ℕ) → n < 256 ^ byte_len w → (number w).read (to_be_bytes w n ++ rest) ≡ Ok (n, rest)
@@ -210,7 +228,8 @@ number_again w wide n rest lt =
 
 number_within : (w : Width) (bytes : List ℕ) (e : Bad) → IsBytes bytes → (number w).read bytes ≡ Err e → e.left ≤ length bytes
 number_within w bytes e fits h =
-    elim (chosen (ltb (length bytes) (byte_len w)) (Err (bad codes.truncation bytes)) (Ok (from_be_bytes w (take (byte_len w) bytes), drop (byte_len w) bytes)) (Err e) h) [
+    elim (chosen (ltb (length bytes) (byte_len w)) (Err (bad codes.truncation bytes))
+    (Ok (from_be_bytes w (take (byte_len w) bytes), drop (byte_len w) bytes)) (Err e) h) [
       | inl cut ↦ rw (← err_is (bad codes.truncation bytes) e cut.1) (omega arith)
       | inr long ↦ not_both (from_be_bytes w (take (byte_len w) bytes), drop (byte_len w) bytes) e long.1
     ]
@@ -228,14 +247,16 @@ number_cut w wide n front begins =
 pub number_exact : (w : Width) → IsWide w → IsExact (number w)
 number_exact w wide = record { takes = number_takes w wide; again = number_again w wide; within = number_within w; cut = λ n fits. number_cut w wide n }
 
-signed_takes : (w : Width) → IsWide w → (bytes : List ℕ) (x : ℤ × List ℕ) → IsBytes bytes → (signed_number w).read bytes ≡ Ok x → Takes bytes (to_be_bytes w (cast_unsigned w x.0)) x.1 × FitsSigned w x.0
+signed_takes : (w : Width) → IsWide w → (bytes : List ℕ) (x : ℤ × List ℕ) → IsBytes bytes → (signed_number w).read bytes ≡ Ok x
+    → Takes bytes (to_be_bytes w (cast_unsigned w x.0)) x.1 × FitsSigned w x.0
 signed_takes w wide bytes x fits e =
     let a = bind_ok ((number w).read bytes) (λ n. Ok (cast_signed w n.0, n.1)) x e in
     let p = number_takes w wide bytes a.0 fits a.1 in
     subst (λ (y : ℤ × List ℕ). Takes bytes (to_be_bytes w (cast_unsigned w y.0)) y.1 × FitsSigned w y.0) (ok_is (cast_signed w a.0.0, a.0.1) x a.2)
     (rw (wide.signed_back a.0.0 p.1) p.0, wide.signed_fits a.0.0 p.1)
 
-signed_again : (w : Width) → IsWide w → (z : ℤ) (rest : List ℕ) → FitsSigned w z → (signed_number w).read (to_be_bytes w (cast_unsigned w z) ++ rest) ≡ Ok (z, rest)
+signed_again : (w : Width) → IsWide w → (z : ℤ) (rest : List ℕ) → FitsSigned w z
+    → (signed_number w).read (to_be_bytes w (cast_unsigned w z) ++ rest) ≡ Ok (z, rest)
 signed_again w wide z rest fits = rw (number_again w wide (cast_unsigned w z) rest (wide.bits_fit z fits), to_z-of_z w z fits) refl
 
 signed_within : (w : Width) (bytes : List ℕ) (e : Bad) → IsBytes bytes → (signed_number w).read bytes ≡ Err e → e.left ≤ length bytes
@@ -246,14 +267,16 @@ signed_within w bytes e fits h =
     ]
 
 signed_cut : (w : Width) → IsWide w → (z : ℤ) → FitsSigned w z → CutsFronts (signed_number w).read (to_be_bytes w (cast_unsigned w z))
-signed_cut w wide z fits = cuts_still (number w).read (λ bytes n. Ok (cast_signed w n.0, n.1)) (to_be_bytes w (cast_unsigned w z)) (number_cut w wide (cast_unsigned w z))
+signed_cut w wide z fits =
+    cuts_still (number w).read (λ bytes n. Ok (cast_signed w n.0, n.1)) (to_be_bytes w (cast_unsigned w z)) (number_cut w wide (cast_unsigned w z))
 
 pub signed_exact : (w : Width) → IsWide w → IsExact (signed_number w)
 signed_exact w wide = record { takes = signed_takes w wide; again = signed_again w wide; within = signed_within w; cut = signed_cut w wide }
 
 -- ---- fields made of others
 
-pub made_exact : {A B : Type 0} (make : A → B) (back : B → A) (f : Field A) → ((x : A) → f.Fits x → back (make x) ≡ x) → ((y : B) → f.Fits (back y) → make (back y) ≡ y) → IsExact f → IsExact (as_type make back f)
+pub made_exact : {A B : Type 0} (make : A → B) (back : B → A) (f : Field A) → ((x : A) → f.Fits x → back (make x) ≡ x)
+    → ((y : B) → f.Fits (back y) → make (back y) ≡ y) → IsExact f → IsExact (as_type make back f)
 made_exact {A} {B} make back f there here exact = record {
   takes = λ bytes x fits e.
       let a = bind_ok (f.read bytes) (λ x. Ok (make x.0, x.1)) x e in
@@ -275,7 +298,8 @@ tested_exact {A} test code f exact = record {
       let a = bind_ok (f.read bytes) (λ x. cond (test x.0) (Ok x) (Err (bad code bytes))) x e in
       let p = exact.takes bytes a.0 fits a.1 in
       elim (chosen (test a.0.0) (Ok a.0) (Err (bad code bytes)) (Ok x) a.2) [
-        | inl passed ↦ subst (λ (z : A × List ℕ). Takes bytes (f.spell z.0) z.1 × (f.Fits z.0 × IsTrue (test z.0))) (ok_is a.0 x passed.1) (p.0, (p.1, passed.0))
+        | inl passed ↦ subst (λ (z : A × List ℕ). Takes bytes (f.spell z.0) z.1 × (f.Fits z.0 × IsTrue (test z.0))) (ok_is a.0 x passed.1)
+            (p.0, (p.1, passed.0))
         | inr missed ↦ not_both x (bad code bytes) (sym missed.1)
       ];
   again = λ x rest fits. rw (exact.again x rest fits.0, fits.1) refl;
@@ -302,7 +326,8 @@ and_then_exact {A} {B} f g one two = record {
       subst (λ (z : (A × B) × List ℕ). Takes bytes (f.spell z.0.0 ++ (g z.0.0).spell z.0.1) z.1 × (f.Fits z.0.0 × (g z.0.0).Fits z.0.1)) (ok_is whole x b.2)
       (Takes-then bytes (f.spell a.0.0) a.0.1 ((g a.0.0).spell b.0.0) b.0.1 p.0 q.0, (p.1, q.1));
   again = λ x rest fits.
-      ap (and_then f g).read (append_assoc (f.spell x.0) ((g x.0).spell x.1) rest) ∙ rw (one.again x.0 ((g x.0).spell x.1 ++ rest) fits.0, (two x.0).again x.1 rest fits.1) refl;
+      ap (and_then f g).read (append_assoc (f.spell x.0) ((g x.0).spell x.1) rest)
+      ∙ rw (one.again x.0 ((g x.0).spell x.1 ++ rest) fits.0, (two x.0).again x.1 rest fits.1) refl;
   within = λ bytes e fits h.
       elim (bind_err (f.read bytes) (λ x. (g x.0).read x.1 >>= λ y. Ok ((x.0, y.0), y.1)) e h) [
         | inl first ↦ one.within bytes e fits first
@@ -315,14 +340,16 @@ and_then_exact {A} {B} f g one two = record {
       ];
   cut = λ x fits.
       let h = g x.0 in
-      cuts_both f.read (λ x. (g x.0).read x.1 >>= λ y. Ok ((x.0, y.0), y.1)) x.0 (f.spell x.0) (h.spell x.1) (λ rest. one.again x.0 rest fits.0) (one.cut x.0 fits.0)
+      cuts_both f.read (λ x. (g x.0).read x.1 >>= λ y. Ok ((x.0, y.0), y.1)) x.0 (f.spell x.0) (h.spell x.1)
+      (λ rest. one.again x.0 rest fits.0) (one.cut x.0 fits.0)
       (cuts_still h.read (λ bytes y. Ok ((x.0, y.0), y.1)) (h.spell x.1) ((two x.0).cut x.1 fits.1));
 }
 
 pub both_exact : {A B : Type 0} (f : Field A) (g : Field B) → IsExact f → IsExact g → IsExact (both f g)
 both_exact f g one two = and_then_exact f (λ _. g) one (λ _. two)
 
-pub fitting_exact : {A : Type 0} (Fits : A → Type 0) (f : Field A) → ((x : A) → f.Fits x → Fits x) → ((x : A) → Fits x → f.Fits x) → IsExact f → IsExact (field_that_fits Fits f)
+pub fitting_exact : {A : Type 0} (Fits : A → Type 0) (f : Field A) → ((x : A) → f.Fits x → Fits x) → ((x : A) → Fits x → f.Fits x)
+    → IsExact f → IsExact (field_that_fits Fits f)
 fitting_exact Fits f here there exact = record {
   takes = λ bytes x fits e. let p = exact.takes bytes x fits e in (p.0, here x.0 p.1);
   again = λ x rest fits. exact.again x rest (there x fits);
@@ -355,7 +382,8 @@ ranged_exact least most f fits exact =
 
 pub nothing_exact : IsExact nothing
 nothing_exact = record {
-  takes = λ bytes x fits e. subst (λ (y : Unit {0} × List ℕ). Takes bytes [] y.1 × Unit {0}) (ok_is (tt, bytes) x e) (record { parts = refl; rest_fits = fits }, tt);
+  takes = λ bytes x fits e. subst (λ (y : Unit {0} × List ℕ). Takes bytes [] y.1 × Unit {0}) (ok_is (tt, bytes) x e)
+      (record { parts = refl; rest_fits = fits }, tt);
   again = λ x rest fits. refl;
   within = λ bytes e fits h. not_both (tt, bytes) e h;
   cut = λ x fits front begins. no_front front begins;
@@ -370,7 +398,8 @@ pub record Tagged {A B : Type 0} (tag : ℕ) (f : Field B) (make : B → A) (res
   pub taken : Takes (tag ∷ rest) (tag ∷ f.spell value) x.1
   pub fit : f.Fits value
 
-pub tag_takes : {A B : Type 0} (tag : ℕ) (f : Field B) (make : B → A) → IsExact f → (rest : List ℕ) (x : A × List ℕ) → IsBytes rest → read_as make f.read rest ≡ Ok x → Tagged tag f make rest x
+pub tag_takes : {A B : Type 0} (tag : ℕ) (f : Field B) (make : B → A) → IsExact f → (rest : List ℕ) (x : A × List ℕ) → IsBytes rest
+    → read_as make f.read rest ≡ Ok x → Tagged tag f make rest x
 tag_takes tag f make exact rest x fits e =
     let a = bind_ok (f.read rest) (λ y. Ok (make y.0, y.1)) x e in
     let p = exact.takes rest a.0 fits a.1 in
@@ -378,11 +407,13 @@ tag_takes tag f make exact rest x fits e =
     record {
       value = a.0.0;
       is = ap (λ z. z.0) whole;
-      taken = subst (λ after. Takes (tag ∷ rest) (tag ∷ f.spell a.0.0) after) (ap (λ z. z.1) whole) (record { parts = ap (λ (t : List ℕ). tag ∷ t) p.0.parts; rest_fits = p.0.rest_fits });
+      taken = subst (λ after. Takes (tag ∷ rest) (tag ∷ f.spell a.0.0) after) (ap (λ z. z.1) whole)
+          (record { parts = ap (λ (t : List ℕ). tag ∷ t) p.0.parts; rest_fits = p.0.rest_fits });
       fit = p.1;
     }
 
-pub tag_within : {A B : Type 0} (tag : ℕ) (f : Field B) (make : B → A) → IsExact f → (rest : List ℕ) (e : Bad) → IsBytes rest → read_as make f.read rest ≡ Err e → e.left ≤ length (tag ∷ rest)
+pub tag_within : {A B : Type 0} (tag : ℕ) (f : Field B) (make : B → A) → IsExact f → (rest : List ℕ) (e : Bad) → IsBytes rest
+    → read_as make f.read rest ≡ Err e → e.left ≤ length (tag ∷ rest)
 tag_within tag f make exact rest e fits h =
     elim (bind_err (f.read rest) (λ y. Ok (make y.0, y.1)) e h) [
       | inl first ↦ omega (arith, exact.within rest e fits first)
@@ -397,7 +428,8 @@ pub record IsExactForm {A : Type 0} (spell : A → List ℕ) (Fits : A → Type 
   pub within : (rest : List ℕ) (e : Bad) → IsBytes rest → form.1 rest ≡ Err e → e.left ≤ length (form.0 ∷ rest)
 
 -- a field behind a tag, and what is made of it
-pub behind_exact : {A B : Type 0} (spell : A → List ℕ) (Fits : A → Type 0) (tag : ℕ) (make : B → A) (f : Field B) → ((y : B) → tag ∷ f.spell y ≡ spell (make y)) → ((y : B) → f.Fits y → Fits (make y)) → IsExact f → IsExactForm spell Fits (behind tag make f)
+pub behind_exact : {A B : Type 0} (spell : A → List ℕ) (Fits : A → Type 0) (tag : ℕ) (make : B → A) (f : Field B)
+    → ((y : B) → tag ∷ f.spell y ≡ spell (make y)) → ((y : B) → f.Fits y → Fits (make y)) → IsExact f → IsExactForm spell Fits (behind tag make f)
 behind_exact {A} spell Fits tag make f spelled fit exact = record {
   takes = λ rest x fits e.
       let t = tag_takes tag f make exact rest x fits e in
@@ -416,7 +448,8 @@ infixr 4 ◌also◌
 abbrev pub ◌also◌ : {P Q : Type 0} → P → Q → P × Q
 p also q = (p, q)
 
-form_takes : {A : Type 0} (spell : A → List ℕ) (Fits : A → Type 0) (forms : List (Form A)) → AreExactForms spell Fits forms → (tag : ℕ) (rest : List ℕ) (x : A × List ℕ) → IsBytes rest → form_read forms tag (tag ∷ rest) rest ≡ Ok x
+form_takes : {A : Type 0} (spell : A → List ℕ) (Fits : A → Type 0) (forms : List (Form A)) → AreExactForms spell Fits forms
+    → (tag : ℕ) (rest : List ℕ) (x : A × List ℕ) → IsBytes rest → form_read forms tag (tag ∷ rest) rest ≡ Ok x
     → Takes (tag ∷ rest) (spell x.0) x.1 × Fits x.0
 form_takes spell Fits [] exact tag rest x fits e = not_both x (bad codes.tag (tag ∷ rest)) (sym e)
 form_takes spell Fits (f ∷ forms) exact tag rest x fits e =
@@ -425,7 +458,8 @@ form_takes spell Fits (f ∷ forms) exact tag rest x fits e =
       | inr other ↦ form_takes spell Fits forms exact.1 tag rest x fits other.1
     ]
 
-form_within : {A : Type 0} (spell : A → List ℕ) (Fits : A → Type 0) (forms : List (Form A)) → AreExactForms spell Fits forms → (tag : ℕ) (rest : List ℕ) (e : Bad) → IsBytes rest → form_read forms tag (tag ∷ rest) rest ≡ Err e → e.left ≤ length (tag ∷ rest)
+form_within : {A : Type 0} (spell : A → List ℕ) (Fits : A → Type 0) (forms : List (Form A)) → AreExactForms spell Fits forms
+    → (tag : ℕ) (rest : List ℕ) (e : Bad) → IsBytes rest → form_read forms tag (tag ∷ rest) rest ≡ Err e → e.left ≤ length (tag ∷ rest)
 form_within spell Fits [] exact tag rest e fits h = rw (← err_is (bad codes.tag (tag ∷ rest)) e h) (omega arith)
 form_within spell Fits (f ∷ forms) exact tag rest e fits h =
     elim (chosen (eqb tag f.0) (f.1 rest) (form_read forms tag (tag ∷ rest) rest) (Err e) h) [
@@ -433,16 +467,20 @@ form_within spell Fits (f ∷ forms) exact tag rest e fits h =
       | inr other ↦ form_within spell Fits forms exact.1 tag rest e fits other.1
     ]
 
-pub by_tag_takes : {A : Type 0} (spell : A → List ℕ) (Fits : A → Type 0) (forms : List (Form A)) → AreExactForms spell Fits forms → (bytes : List ℕ) (x : A × List ℕ) → IsBytes bytes → by_tag forms bytes ≡ Ok x → Takes bytes (spell x.0) x.1 × Fits x.0
+pub by_tag_takes : {A : Type 0} (spell : A → List ℕ) (Fits : A → Type 0) (forms : List (Form A)) → AreExactForms spell Fits forms
+    → (bytes : List ℕ) (x : A × List ℕ) → IsBytes bytes → by_tag forms bytes ≡ Ok x → Takes bytes (spell x.0) x.1 × Fits x.0
 by_tag_takes spell Fits forms exact [] x fits e = not_both x (bad codes.truncation []) (sym e)
 by_tag_takes spell Fits forms exact (tag ∷ rest) x fits e = form_takes spell Fits forms exact tag rest x (IsBytes-rest tag rest fits) e
 
-pub by_tag_within : {A : Type 0} (spell : A → List ℕ) (Fits : A → Type 0) (forms : List (Form A)) → AreExactForms spell Fits forms → (bytes : List ℕ) (e : Bad) → IsBytes bytes → by_tag forms bytes ≡ Err e → e.left ≤ length bytes
+pub by_tag_within : {A : Type 0} (spell : A → List ℕ) (Fits : A → Type 0) (forms : List (Form A)) → AreExactForms spell Fits forms
+    → (bytes : List ℕ) (e : Bad) → IsBytes bytes → by_tag forms bytes ≡ Err e → e.left ≤ length bytes
 by_tag_within spell Fits forms exact [] e fits h = rw (← err_is (bad codes.truncation []) e h) (omega arith)
 by_tag_within spell Fits forms exact (tag ∷ rest) e fits h = form_within spell Fits forms exact tag rest e (IsBytes-rest tag rest fits) h
 
 -- a tag, and the field behind it of the form that is found by it
-tag_cut : {A B : Type 0} (forms : List (Form A)) (tag : ℕ) (make : B → A) (f : Field B) → ((bytes rest : List ℕ) → form_read forms tag bytes rest ≡ (behind tag make f).1 rest) → IsExact f → (x : B) → f.Fits x → CutsFronts (by_tag forms) (tag ∷ f.spell x)
+tag_cut : {A B : Type 0} (forms : List (Form A)) (tag : ℕ) (make : B → A) (f : Field B)
+    → ((bytes rest : List ℕ) → form_read forms tag bytes rest ≡ (behind tag make f).1 rest) → IsExact f → (x : B) → f.Fits x
+    → CutsFronts (by_tag forms) (tag ∷ f.spell x)
 tag_cut forms tag make f found exact x fits [] begins = refl
 tag_cut forms tag make f found exact x fits (b ∷ front) begins =
     let tail = front_tail tag b (f.spell x) front begins in
@@ -453,14 +491,17 @@ pub record ReadsBack {A : Type 0} (read : List ℕ → Read A) (spelling : List 
   pub again : (rest : List ℕ) → read (spelling ++ rest) ≡ Ok (x, rest)
   pub cut : CutsFronts read spelling
 
-pub tag_reads_back : {A B : Type 0} (forms : List (Form A)) (tag : ℕ) (make : B → A) (f : Field B) → ((bytes rest : List ℕ) → form_read forms tag bytes rest ≡ (behind tag make f).1 rest) → IsExact f → (x : B) → f.Fits x → ReadsBack (by_tag forms) (tag ∷ f.spell x) (make x)
+pub tag_reads_back : {A B : Type 0} (forms : List (Form A)) (tag : ℕ) (make : B → A) (f : Field B)
+    → ((bytes rest : List ℕ) → form_read forms tag bytes rest ≡ (behind tag make f).1 rest) → IsExact f → (x : B) → f.Fits x
+    → ReadsBack (by_tag forms) (tag ∷ f.spell x) (make x)
 tag_reads_back forms tag make f found exact x fits = record {
   again = λ rest. found (tag ∷ (f.spell x ++ rest)) (f.spell x ++ rest) ∙ rw (exact.again x rest fits) refl;
   cut = tag_cut forms tag make f found exact x fits;
 }
 
 -- forms that are exact make an exact field, where each value is read back
-pub by_tag_exact : {A : Type 0} (spell : A → List ℕ) (Fits : A → Type 0) (forms : List (Form A)) → AreExactForms spell Fits forms → ((x : A) → Fits x → ReadsBack (by_tag forms) (spell x) x) → IsExact (record { spell = spell; read = by_tag forms; Fits = Fits })
+pub by_tag_exact : {A : Type 0} (spell : A → List ℕ) (Fits : A → Type 0) (forms : List (Form A)) → AreExactForms spell Fits forms
+    → ((x : A) → Fits x → ReadsBack (by_tag forms) (spell x) x) → IsExact (record { spell = spell; read = by_tag forms; Fits = Fits })
 by_tag_exact spell Fits forms exact back = record {
   takes = by_tag_takes spell Fits forms exact;
   again = λ x rest fits. (back x fits).again rest;
@@ -474,13 +515,16 @@ by_tag_exact spell Fits forms exact back = record {
 abbrev some_read : {A : Type 0} → Field A → ℕ → List ℕ → Read (Option A)
 some_read f flag bytes = cond (eqb flag 1) (read_as (λ y. Some y) f.read bytes) (Err (bad codes.tag (flag ∷ bytes)))
 
-optional_takes : {A : Type 0} (f : Field A) → IsExact f → (bytes : List ℕ) (x : Option A × List ℕ) → IsBytes bytes → (optional f).read bytes ≡ Ok x → Takes bytes ((optional f).spell x.0) x.1 × IfSome x.0 f.Fits
+optional_takes : {A : Type 0} (f : Field A) → IsExact f → (bytes : List ℕ) (x : Option A × List ℕ) → IsBytes bytes
+    → (optional f).read bytes ≡ Ok x → Takes bytes ((optional f).spell x.0) x.1 × IfSome x.0 f.Fits
 optional_takes f exact [] x fits e = absurd (not_both x (bad codes.truncation []) (sym e))
 optional_takes {A} f exact (flag ∷ bytes) x fits e =
     let rest_fits = IsBytes-rest flag bytes fits in
     elim (chosen (eqb flag 0) (Ok (None, bytes)) (some_read f flag bytes) (Ok x) e) [
       | inl none ↦
-          rw (eqb-true flag 0 none.0) (subst (λ (z : Option A × List ℕ). Takes (0 ∷ bytes) ((optional f).spell z.0) z.1 × IfSome z.0 f.Fits) (ok_is (None, bytes) x none.1) (record { parts = refl; rest_fits = rest_fits }, tt))
+          rw (eqb-true flag 0 none.0)
+          (subst (λ (z : Option A × List ℕ). Takes (0 ∷ bytes) ((optional f).spell z.0) z.1 × IfSome z.0 f.Fits)
+          (ok_is (None, bytes) x none.1) (record { parts = refl; rest_fits = rest_fits }, tt))
       | inr some ↦
           elim (chosen (eqb flag 1) (read_as (λ y. Some y) f.read bytes) (Err (bad codes.tag (flag ∷ bytes))) (Ok x) some.1) [
             | inl one ↦
@@ -490,7 +534,8 @@ optional_takes {A} f exact (flag ∷ bytes) x fits e =
           ]
     ]
 
-optional_again : {A : Type 0} (f : Field A) → IsExact f → (o : Option A) (rest : List ℕ) → IfSome o f.Fits → (optional f).read ((optional f).spell o ++ rest) ≡ Ok (o, rest)
+optional_again : {A : Type 0} (f : Field A) → IsExact f → (o : Option A) (rest : List ℕ) → IfSome o f.Fits
+    → (optional f).read ((optional f).spell o ++ rest) ≡ Ok (o, rest)
 optional_again f exact None rest fits = refl
 optional_again f exact (Some x) rest fits = rw (exact.again x rest fits) refl
 
@@ -520,9 +565,11 @@ optional_exact f exact = record { takes = optional_takes f exact; again = option
 
 -- what is judged of the number behind ff
 abbrev long_count_judged : ℕ → ℕ → List ℕ → ℕ × List ℕ → Read ℕ
-long_count_judged least most bytes n = cond (is_within least most n.0) (cond (ltb n.0 255) (Err (bad codes.not_canonical bytes)) (Ok n)) (Err (bad codes.limit bytes))
+long_count_judged least most bytes n =
+    cond (is_within least most n.0) (cond (ltb n.0 255) (Err (bad codes.not_canonical bytes)) (Ok n)) (Err (bad codes.limit bytes))
 
-long_count_takes : (least most : ℕ) (bytes rest : List ℕ) (x : ℕ × List ℕ) → IsBytes rest → long_count_read least most bytes rest ≡ Ok x → Takes (255 ∷ rest) (count_spelling x.0) x.1 × ((least ≤ x.0) × (x.0 ≤ most))
+long_count_takes : (least most : ℕ) (bytes rest : List ℕ) (x : ℕ × List ℕ) → IsBytes rest → long_count_read least most bytes rest ≡ Ok x
+    → Takes (255 ∷ rest) (count_spelling x.0) x.1 × ((least ≤ x.0) × (x.0 ≤ most))
 long_count_takes least most bytes rest x fits e =
     let judged = long_count_judged least most bytes in
     elim (chosen (ltb (length rest) 4) (Err (bad codes.truncation bytes)) ((number w32).read rest >>= judged) (Ok x) e) [
@@ -530,7 +577,8 @@ long_count_takes least most bytes rest x fits e =
       | inr whole ↦
           let a = bind_ok ((number w32).read rest) judged x whole.1 in
           let p = number_takes w32 wide32 rest a.0 fits a.1 in
-          elim (chosen (is_within least most a.0.0) (cond (ltb a.0.0 255) (Err (bad codes.not_canonical bytes)) (Ok a.0)) (Err (bad codes.limit bytes)) (Ok x) a.2) [
+          elim (chosen (is_within least most a.0.0) (cond (ltb a.0.0 255) (Err (bad codes.not_canonical bytes)) (Ok a.0))
+          (Err (bad codes.limit bytes)) (Ok x) a.2) [
             | inl kept ↦
                 elim (chosen (ltb a.0.0 255) (Err (bad codes.not_canonical bytes)) (Ok a.0) (Ok x) kept.1) [
                   | inl short ↦ not_both x (bad codes.not_canonical bytes) (sym short.1)
@@ -542,7 +590,8 @@ long_count_takes least most bytes rest x fits e =
           ]
     ]
 
-count_takes : (least most : ℕ) (bytes : List ℕ) (x : ℕ × List ℕ) → IsBytes bytes → count_read least most bytes ≡ Ok x → Takes bytes (count_spelling x.0) x.1 × ((least ≤ x.0) × (x.0 ≤ most))
+count_takes : (least most : ℕ) (bytes : List ℕ) (x : ℕ × List ℕ) → IsBytes bytes → count_read least most bytes ≡ Ok x
+    → Takes bytes (count_spelling x.0) x.1 × ((least ≤ x.0) × (x.0 ≤ most))
 unfolding count_read
 count_takes least most [] x fits e = absurd (not_both x (bad codes.truncation []) (sym e))
 count_takes least most (first ∷ rest) x fits e =
@@ -561,7 +610,8 @@ count_takes least most (first ∷ rest) x fits e =
           rw is_255 (long_count_takes least most bytes rest x (IsBytes-rest first rest fits) four.1)
     ]
 
-count_again : (least most : ℕ) → most < 256 ^ 4 → (n : ℕ) (rest : List ℕ) → (least ≤ n) × (n ≤ most) → count_read least most (count_spelling n ++ rest) ≡ Ok (n, rest)
+count_again : (least most : ℕ) → most < 256 ^ 4 → (n : ℕ) (rest : List ℕ) → (least ≤ n) × (n ≤ most)
+    → count_read least most (count_spelling n ++ rest) ≡ Ok (n, rest)
 unfolding count_read
 count_again least most wide n rest fits =
     let kept : is_within least most n ≡ true = is_within-true least most n fits in
@@ -573,7 +623,8 @@ count_again least most wide n rest fits =
           rw (long, number_again w32 wide32 n rest (omega arith), enough, kept, long) refl
     ]
 
-long_count_within : (least most : ℕ) (bytes rest : List ℕ) (e : Bad) → IsBytes rest → length rest ≤ length bytes → long_count_read least most bytes rest ≡ Err e → e.left ≤ length bytes
+long_count_within : (least most : ℕ) (bytes rest : List ℕ) (e : Bad) → IsBytes rest → length rest ≤ length bytes
+    → long_count_read least most bytes rest ≡ Err e → e.left ≤ length bytes
 long_count_within least most bytes rest e fits shorter h =
     let judged = long_count_judged least most bytes in
     elim (chosen (ltb (length rest) 4) (Err (bad codes.truncation bytes)) ((number w32).read rest >>= judged) (Err e) h) [
@@ -582,7 +633,8 @@ long_count_within least most bytes rest e fits shorter h =
           elim (bind_err ((number w32).read rest) judged e whole.1) [
             | inl first ↦ omega (arith, number_within w32 rest e fits first)
             | inr n ↦
-                elim (chosen (is_within least most n.0.0) (cond (ltb n.0.0 255) (Err (bad codes.not_canonical bytes)) (Ok n.0)) (Err (bad codes.limit bytes)) (Err e) n.2) [
+                elim (chosen (is_within least most n.0.0) (cond (ltb n.0.0 255) (Err (bad codes.not_canonical bytes)) (Ok n.0))
+                (Err (bad codes.limit bytes)) (Err e) n.2) [
                   | inl kept ↦
                       elim (chosen (ltb n.0.0 255) (Err (bad codes.not_canonical bytes)) (Ok n.0) (Err e) kept.1) [
                         | inl short ↦ rw (← err_is (bad codes.not_canonical bytes) e short.1) (omega arith)
@@ -625,23 +677,36 @@ count_cut least most n (first ∷ front) begins =
     ]
 
 pub count_exact : (least most : ℕ) → most < 256 ^ 4 → IsExact (count least most)
-count_exact least most wide = record { takes = count_takes least most; again = count_again least most wide; within = count_within least most; cut = λ n fits. count_cut least most n }
+count_exact least most wide =
+    record { takes = count_takes least most; again = count_again least most wide; within = count_within least most; cut = λ n fits. count_cut least most n }
 
 -- ---- lists
 
 pub record IsExactElement {A : Type 0} (e : Element A) : Type 0 where
-  pub takes : (front : List A) (left : ℕ) (bytes : List ℕ) (x : A × List ℕ) → IsBytes bytes → e.read front left bytes ≡ Ok x → Takes bytes (e.spell x.0) x.1 × e.Fits front left x.0
+  pub takes : (front : List A) (left : ℕ) (bytes : List ℕ) (x : A × List ℕ) → IsBytes bytes → e.read front left bytes ≡ Ok x
+      → Takes bytes (e.spell x.0) x.1 × e.Fits front left x.0
   pub again : (front : List A) (left : ℕ) (x : A) (rest : List ℕ) → e.Fits front left x → e.read front left (e.spell x ++ rest) ≡ Ok (x, rest)
   pub within : (front : List A) (left : ℕ) (bytes : List ℕ) (d : Bad) → IsBytes bytes → e.read front left bytes ≡ Err d → d.left ≤ length bytes
   pub cut : (front : List A) (left : ℕ) (x : A) → e.Fits front left x → CutsFronts (e.read front left) (e.spell x)
 
 pub plain_exact : {A : Type 0} (f : Field A) → IsExact f → IsExactElement (plain f)
-plain_exact f exact = record { takes = λ front left. exact.takes; again = λ front left. exact.again; within = λ front left. exact.within; cut = λ front left. exact.cut }
+plain_exact f exact = record {
+  takes = λ front left. exact.takes;
+  again = λ front left. exact.again;
+  within = λ front left. exact.within;
+  cut = λ front left. exact.cut;
+}
 
 pub last_tested_exact : {A : Type 0} (test : A → Bool) (code : ℕ) (f : Field A) → IsExact f → IsExactElement (last_tested test code f)
 last_tested_exact {A} test code f exact =
     let at = λ (left : ℕ). tested_exact (λ (x : A). cond (eqb left 0) (test x) true) code f exact in
-    record { takes = λ front left. (at left).takes; again = λ front left. (at left).again; within = λ front left. (at left).within; cut = λ front left. (at left).cut }
+    record {
+      takes = λ front left. (at left).takes;
+      again = λ front left. (at left).again;
+      within = λ front left. (at left).within;
+      cut =
+          λ front left. (at left).cut;
+    }
 
 -- what stands behind the elements at the front
 pub record Adds {A : Type 0} (e : Element A) (front : List A) (n : ℕ) (bytes : List ℕ) (x : List A × List ℕ) : Type 0 where
@@ -651,10 +716,12 @@ pub record Adds {A : Type 0} (e : Element A) (front : List A) (n : ℕ) (bytes :
   pub taken : Takes bytes (flat_map e.spell added) x.1
   pub fit : ElementsFit e.Fits front added
 
-elements_take : {A : Type 0} (e : Element A) → IsExactElement e → (n : ℕ) (front : List A) (bytes : List ℕ) (x : List A × List ℕ) → IsBytes bytes → elements_read e.read n front bytes ≡ Ok x → Adds e front n bytes x
+elements_take : {A : Type 0} (e : Element A) → IsExactElement e → (n : ℕ) (front : List A) (bytes : List ℕ) (x : List A × List ℕ)
+    → IsBytes bytes → elements_read e.read n front bytes ≡ Ok x → Adds e front n bytes x
 unfolding elements_read
 elements_take {A} e exact zero front bytes x fits h =
-    subst (λ (z : List A × List ℕ). Adds e front 0 bytes z) (ok_is (front, bytes) x h) (record { added = []; all = sym (append-nil front); len = refl; taken = record { parts = refl; rest_fits = fits }; fit = tt })
+    subst (λ (z : List A × List ℕ). Adds e front 0 bytes z) (ok_is (front, bytes) x h)
+    (record { added = []; all = sym (append-nil front); len = refl; taken = record { parts = refl; rest_fits = fits }; fit = tt })
 elements_take {A} e exact (suc left) front bytes x fits h =
     let a = bind_ok (e.read front left bytes) (λ y. elements_read e.read left (front ++ y.0 ∷ []) y.1) x h in
     let first = exact.takes front left bytes a.0 fits a.1 in
@@ -667,15 +734,19 @@ elements_take {A} e exact (suc left) front bytes x fits h =
       fit = (rw others.len first.1, others.fit);
     }
 
-elements_again : {A : Type 0} (e : Element A) → IsExactElement e → (xs front : List A) (rest : List ℕ) → ElementsFit e.Fits front xs → elements_read e.read (length xs) front (flat_map e.spell xs ++ rest) ≡ Ok (front ++ xs, rest)
+elements_again : {A : Type 0} (e : Element A) → IsExactElement e → (xs front : List A) (rest : List ℕ) → ElementsFit e.Fits front xs
+    → elements_read e.read (length xs) front (flat_map e.spell xs ++ rest) ≡ Ok (front ++ xs, rest)
 unfolding elements_read
 elements_again e exact [] front rest fits = ap (λ xs. Ok (xs, rest)) (sym (append-nil front))
 elements_again e exact (x ∷ xs) front rest fits =
-    let regrouped : flat_map e.spell (x ∷ xs) ++ rest ≡ e.spell x ++ (flat_map e.spell xs ++ rest) = ap (λ (t : List ℕ). t ++ rest) (flat_map-cons e.spell x xs) ∙ append_assoc (e.spell x) (flat_map e.spell xs) rest in
+    let regrouped : flat_map e.spell (x ∷ xs) ++ rest ≡ e.spell x ++ (flat_map e.spell xs ++ rest) =
+    ap (λ (t : List ℕ). t ++ rest) (flat_map-cons e.spell x xs) ∙ append_assoc (e.spell x) (flat_map e.spell xs) rest in
     ap (elements_read e.read (suc (length xs)) front) regrouped
-    ∙ rw (exact.again front (length xs) x (flat_map e.spell xs ++ rest) fits.0, elements_again e exact xs (front ++ x ∷ []) rest fits.1) (ap (λ ys. Ok (ys, rest)) (append_assoc front (x ∷ []) xs))
+    ∙ rw (exact.again front (length xs) x (flat_map e.spell xs ++ rest) fits.0, elements_again e exact xs (front ++ x ∷ []) rest fits.1)
+    (ap (λ ys. Ok (ys, rest)) (append_assoc front (x ∷ []) xs))
 
-elements_within : {A : Type 0} (e : Element A) → IsExactElement e → (n : ℕ) (front : List A) (bytes : List ℕ) (d : Bad) → IsBytes bytes → elements_read e.read n front bytes ≡ Err d → d.left ≤ length bytes
+elements_within : {A : Type 0} (e : Element A) → IsExactElement e → (n : ℕ) (front : List A) (bytes : List ℕ) (d : Bad) → IsBytes bytes
+    → elements_read e.read n front bytes ≡ Err d → d.left ≤ length bytes
 unfolding elements_read
 elements_within e exact zero front bytes d fits h = not_both (front, bytes) d h
 elements_within e exact (suc left) front bytes d fits h =
@@ -686,12 +757,14 @@ elements_within e exact (suc left) front bytes d fits h =
           omega (arith, Takes-shorter bytes (e.spell a.0.0) a.0.1 first.0, elements_within e exact left (front ++ a.0.0 ∷ []) a.0.1 d first.0.rest_fits a.2)
     ]
 
-elements_cut : {A : Type 0} (e : Element A) → IsExactElement e → (xs before : List A) → ElementsFit e.Fits before xs → CutsFronts (elements_read e.read (length xs) before) (flat_map e.spell xs)
+elements_cut : {A : Type 0} (e : Element A) → IsExactElement e → (xs before : List A) → ElementsFit e.Fits before xs
+    → CutsFronts (elements_read e.read (length xs) before) (flat_map e.spell xs)
 unfolding elements_read
 elements_cut e exact [] before fits front begins = no_front front begins
 elements_cut e exact (x ∷ xs) before fits front begins =
     let left = length xs in
-    cuts_both (e.read before left) (λ y. elements_read e.read left (before ++ y.0 ∷ []) y.1) x (e.spell x) (flat_map e.spell xs) (λ rest. exact.again before left x rest fits.0) (exact.cut before left x fits.0)
+    cuts_both (e.read before left) (λ y. elements_read e.read left (before ++ y.0 ∷ []) y.1) x (e.spell x) (flat_map e.spell xs)
+    (λ rest. exact.again before left x rest fits.0) (exact.cut before left x fits.0)
     (elements_cut e exact xs (before ++ x ∷ []) fits.1) front (rw (flat_map-cons e.spell x xs) at begins)
 
 pub elements_exact : {A : Type 0} (e : Element A) (n : ℕ) → IsExactElement e → IsExact (elements e n)
@@ -710,7 +783,8 @@ listed_exact {A} least most e wide exact = record {
       let n = bind_ok (count_read least most bytes) (λ n. elements_read e.read n.0 [] n.1) x h in
       let p = count_takes least most bytes n.0 fits n.1 in
       let a = elements_take e exact n.0.0 [] n.0.1 x p.0.rest_fits n.2 in
-      let spelled : Takes bytes (count_spelling (length a.added) ++ flat_map e.spell a.added) x.1 = rw a.len (Takes-then bytes (count_spelling n.0.0) n.0.1 (flat_map e.spell a.added) x.1 p.0 a.taken) in
+      let spelled : Takes bytes (count_spelling (length a.added) ++ flat_map e.spell a.added) x.1 =
+      rw a.len (Takes-then bytes (count_spelling n.0.0) n.0.1 (flat_map e.spell a.added) x.1 p.0 a.taken) in
       rw a.all (spelled, (omega (arith, a.len, p.1.0), omega (arith, a.len, p.1.1), a.fit));
   again = λ xs rest fits.
       ap (list_read e.read least most) (append_assoc (count_spelling (length xs)) (flat_map e.spell xs) rest)
@@ -724,11 +798,13 @@ listed_exact {A} least most e wide exact = record {
       ];
   cut = λ xs fits.
       let n = length xs in
-      cuts_both (count_read least most) (λ n. elements_read e.read n.0 [] n.1) n (count_spelling n) (flat_map e.spell xs) (λ rest. count_again least most wide n rest (fits.0, fits.1)) (count_cut least most n) (elements_cut e exact xs [] fits.2);
+      cuts_both (count_read least most) (λ n. elements_read e.read n.0 [] n.1) n (count_spelling n) (flat_map e.spell xs)
+      (λ rest. count_again least most wide n rest (fits.0, fits.1)) (count_cut least most n) (elements_cut e exact xs [] fits.2);
 }
 
 -- what fits a list, told of each of its elements
-pub All-from_fit : {A : Type 0} (Fits : List A → ℕ → A → Type 0) (P : A → Type 0) → ((front : List A) (left : ℕ) (x : A) → Fits front left x → P x) → (xs front : List A) → ElementsFit Fits front xs → All P xs
+pub All-from_fit : {A : Type 0} (Fits : List A → ℕ → A → Type 0) (P : A → Type 0)
+    → ((front : List A) (left : ℕ) (x : A) → Fits front left x → P x) → (xs front : List A) → ElementsFit Fits front xs → All P xs
 All-from_fit Fits P tells [] front h k d lt = absurd (omega arith)
 All-from_fit Fits P tells (x ∷ xs) front h zero d lt = tells front (length xs) x h.0
 All-from_fit Fits P tells (x ∷ xs) front h (suc k) d lt = All-from_fit Fits P tells xs (front ++ x ∷ []) h.1 k d (omega arith)

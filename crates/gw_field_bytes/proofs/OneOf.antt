@@ -27,14 +27,16 @@ value_err : {A : Type 0} (o : Option A) (bytes rest : List ℕ) (e : Bad) → va
 value_err None bytes rest e h = rw (← err_is (bad codes.tag bytes) e h) (omega arith)
 value_err (Some y) bytes rest e h = not_both (y, rest) e h
 
-one_takes : {A : Type 0} (byte_of : A → ℕ) (values : List A) (bytes : List ℕ) (x : A × List ℕ) → IsBytes bytes → (one_of byte_of values).read bytes ≡ Ok x → Takes bytes (byte_of x.0 ∷ []) x.1 × Unit {0}
+one_takes : {A : Type 0} (byte_of : A → ℕ) (values : List A) (bytes : List ℕ) (x : A × List ℕ) → IsBytes bytes
+    → (one_of byte_of values).read bytes ≡ Ok x → Takes bytes (byte_of x.0 ∷ []) x.1 × Unit {0}
 one_takes byte_of values [] x fits e = absurd cc
 one_takes byte_of values (b ∷ rest) x fits e =
     let found = value_ok (value_of byte_of values b) (b ∷ rest) rest x e in
     let is : b ≡ byte_of x.0 = stands_for byte_of values b x.0 found.0 in
     (record { parts = rw (is, found.1) refl; rest_fits = rw (← found.1) (IsBytes-rest b rest fits) }, tt)
 
-one_within : {A : Type 0} (byte_of : A → ℕ) (values : List A) (bytes : List ℕ) (e : Bad) → IsBytes bytes → (one_of byte_of values).read bytes ≡ Err e → e.left ≤ length bytes
+one_within : {A : Type 0} (byte_of : A → ℕ) (values : List A) (bytes : List ℕ) (e : Bad) → IsBytes bytes
+    → (one_of byte_of values).read bytes ≡ Err e → e.left ≤ length bytes
 one_within byte_of values [] e fits h = byte_exact.within [] e fits cc
 one_within byte_of values (b ∷ rest) e fits h = value_err (value_of byte_of values b) (b ∷ rest) rest e h
 

@@ -1,5 +1,6 @@
 -- Bytes put behind others are put as one, and what is left of a room.
-use Rattle.std.proofs.Common.{◌≡◌, ℕ, ◌-◌, ◌+◌, ◌≤◌, ◌<◌, List, [], ◌∷◌, ◌++◌, length, get_or, take, Option, Some, None, refl, sym, ap, ◌∙◌, append_assoc, add-one, arith, inl, inr}
+use Rattle.std.proofs.Common.{◌≡◌, ℕ, ◌-◌, ◌+◌, ◌≤◌, ◌<◌, List, [], ◌∷◌, ◌++◌, length, get_or, take, Option, Some, None, refl, sym, ap, ◌∙◌}
+use Rattle.std.proofs.Common.{append_assoc, add-one, arith, inl, inr}
 use Rattle.std.specs.Prelude.{SomeIff}
 use Rattle.std.specs.List.{flat_map}
 use Rattle.std.proofs.Math.Seq.{take-suc}
@@ -45,14 +46,18 @@ with_no_bytes (of_room room) = ap (λ left. of_room left) (room_behind_none room
 pub ruleset joining = (with_bytes_twice, with_no_bytes)
 
 -- one more element is put behind those before it
-one_more : {A : Type 0} (f : A → List ℕ) (xs : List A) (i : ℕ) (x : A) → i < length xs → x ≡ get_or xs i x → flat_map f (take (i + 1) xs) ≡ flat_map f (take i xs) ++ f x
+one_more : {A : Type 0} (f : A → List ℕ) (xs : List A) (i : ℕ) (x : A) → i < length xs → x ≡ get_or xs i x → flat_map f (take (i + 1) xs)
+    ≡ flat_map f (take i xs) ++ f x
 one_more f xs i x lt is =
     let more : take (i + 1) xs ≡ take i xs ++ x ∷ [] = rw (add-one, take-suc xs i x lt, ← is) refl in
     ap (flat_map f) more ∙ flat_map-append f (take i xs) (x ∷ []) ∙ ap (λ (t : List ℕ). flat_map f (take i xs) ++ t) (append-nil (f x))
 
-pub one_more_put : {A : Type 0} (f : A → List ℕ) (xs : List A) (i : ℕ) (x : A) (start before behind : Content) → i < length xs → x ≡ get_or xs i x → before ≡ with_bytes (flat_map f (take i xs)) start → behind ≡ with_bytes (f x) before → behind ≡ with_bytes (flat_map f (take (i + 1) xs)) start
+pub one_more_put : {A : Type 0} (f : A → List ℕ) (xs : List A) (i : ℕ) (x : A) (start before behind : Content) → i < length xs → x
+    ≡ get_or xs i x → before ≡ with_bytes (flat_map f (take i xs)) start → behind ≡ with_bytes (f x) before → behind
+    ≡ with_bytes (flat_map f (take (i + 1) xs)) start
 one_more_put f xs i x start before behind lt is front last =
-    last ∙ ap (with_bytes (f x)) front ∙ with_bytes_twice (flat_map f (take i xs)) (f x) start ∙ ap (λ bytes. with_bytes bytes start) (sym (one_more f xs i x lt is))
+    last ∙ ap (with_bytes (f x)) front ∙ with_bytes_twice (flat_map f (take i xs)) (f x) start
+    ∙ ap (λ bytes. with_bytes bytes start) (sym (one_more f xs i x lt is))
 
 left_is : (n room : ℕ) (left : Option ℕ) → left ≡ room_behind n (Some room) → SomeIff left (n ≤ room) (room - n)
 left_is n room left is =

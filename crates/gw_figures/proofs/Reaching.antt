@@ -1,5 +1,6 @@
 -- The first class up to which so many of a hundred values lie.
-use Rattle.std.proofs.Common.{◌≡◌, ◌≤◌, ◌<◌, ℕ, zero, suc, ◌+◌, ◌-◌, ◌*◌, add-one, arith, refl, Bool, true, false, List, [], ◌∷◌, sum, take, nat_le, if◌then◌else◌}
+use Rattle.std.proofs.Common.{◌≡◌, ◌≤◌, ◌<◌, ℕ, zero, suc, ◌+◌, ◌-◌, ◌*◌, add-one, arith, refl, Bool, true, false, List, [], ◌∷◌, sum, take, nat_le}
+use Rattle.std.proofs.Common.{if◌then◌else◌}
 use Rattle.std.proofs.lemmas.Bool.{leb-true, leb-false}
 use Rattle.std.proofs.lemmas.List.Sums.{sum_by-cons}
 use Rattle.gw_figures.specs.Values.{class_reaching, IsClassReaching, PercentilesAreOfFirstClasses}

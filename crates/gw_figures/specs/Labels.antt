@@ -1,5 +1,6 @@
 -- The figures of a model: what they are called, in the order of its parts.
-use Rattle.std.specs.Prelude.{◌≡◌, Result, OnOk, Vec, ℕ, zero, suc, ◌+◌, ◌-◌, List, [], ◌∷◌, ◌++◌, map, codes, Bool, true, false, ℤ, pos, ◌+ℤ◌, ◌==◌, if◌then◌else◌}
+use Rattle.std.specs.Prelude.{◌≡◌, Result, OnOk, Vec, ℕ, zero, suc, ◌+◌, ◌-◌, List, [], ◌∷◌, ◌++◌, map, codes, Bool, true, false, ℤ, pos, ◌+ℤ◌, ◌==◌}
+use Rattle.std.specs.Prelude.{if◌then◌else◌}
 use Rattle.std.specs.Fmt.{decimal, signed_decimal}
 use Rattle.std.specs.Global.{Global}
 use Rattle.gw_blocks.specs.declared.parts.Block.{Block}

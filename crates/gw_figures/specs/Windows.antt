@@ -1,6 +1,7 @@
 -- A window of a run: the numbers of the states with which it begins and ends, and what the run did in
 -- between.
-use Rattle.std.specs.Prelude.{◌≡◌, Result, OnOk, Vec, ◌++◌, ℕ, ◌-◌, ◌*◌, ◌^◌, Bool, ℤ, pos, ◌*ℤ◌, List, map, length, nat_le, ◌==◌, ◌||◌, unsigned_abs, slice_index_or, Option, None, Some, if◌then◌else◌}
+use Rattle.std.specs.Prelude.{◌≡◌, Result, OnOk, Vec, ◌++◌, ℕ, ◌-◌, ◌*◌, ◌^◌, Bool, ℤ, pos, ◌*ℤ◌, List, map, length, nat_le, ◌==◌, ◌||◌, unsigned_abs}
+use Rattle.std.specs.Prelude.{slice_index_or, Option, None, Some, if◌then◌else◌}
 use Rattle.std.specs.Global.{Global}
 use Rattle.std.specs.List.{range_with_len}
 use Rattle.gw_statistics.specs.Rounding.{nearest, nearest_of}

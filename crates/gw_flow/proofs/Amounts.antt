@@ -27,5 +27,8 @@ pub written : (e n : ℕ) (amounts below here : List Amount) →
     amounts_of (here ++ filter (λ (a : Amount). nat_lt e a.entity) amounts) ≡ with_entry e (nonzero n) (amounts_of amounts)
 written e n amounts below here is_below is_here =
     map-append (λ (a : Amount). (a.entity, a.number)) here (filter (λ (a : Amount). nat_lt e a.entity) amounts)
-    ∙ ap (λ xs. xs ++ amounts_of (filter (λ (a : Amount). nat_lt e a.entity) amounts)) (is_here ∙ ap (λ xs. amounts_of xs ++ entered e n) is_below ∙ ap (λ xs. xs ++ entered e n) (map-filter (λ (a : Amount). (a.entity, a.number)) (λ x. nat_lt x.0 e) amounts))
-    ∙ ap (λ xs. filter (λ x. nat_lt x.0 e) (amounts_of amounts) ++ entered e n ++ xs) (map-filter (λ (a : Amount). (a.entity, a.number)) (λ x. nat_lt e x.0) amounts)
+    ∙ ap (λ xs. xs ++ amounts_of (filter (λ (a : Amount). nat_lt e a.entity) amounts))
+    (is_here ∙ ap (λ xs. amounts_of xs ++ entered e n) is_below
+    ∙ ap (λ xs. xs ++ entered e n) (map-filter (λ (a : Amount). (a.entity, a.number)) (λ x. nat_lt x.0 e) amounts))
+    ∙ ap (λ xs. filter (λ x. nat_lt x.0 e) (amounts_of amounts) ++ entered e n ++ xs)
+    (map-filter (λ (a : Amount). (a.entity, a.number)) (λ x. nat_lt e x.0) amounts)

@@ -1,5 +1,6 @@
 -- Lists that ascend by a key.
-use Rattle.std.proofs.Common.{◌≡◌, ℕ, zero, suc, ◌+◌, ◌<◌, ◌↔◌, Bool, true, false, nat_lt, IsTrue, List, [], ◌∷◌, ◌++◌, length, get_or, map, drop, refl, sym, subst, subst₂, ◌∙◌, inl, inr, true≢false, arith}
+use Rattle.std.proofs.Common.{◌≡◌, ℕ, zero, suc, ◌+◌, ◌<◌, ◌↔◌, Bool, true, false, nat_lt, IsTrue, List, [], ◌∷◌, ◌++◌, length, get_or, map, drop}
+use Rattle.std.proofs.Common.{refl, sym, subst, subst₂, ◌∙◌, inl, inr, true≢false, arith}
 use Rattle.std.specs.Prelude.{All, AllPairs, filter}
 use Rattle.std.specs.List.{AllAdjacentBelow, IsAllAdjacentAnswer}
 use Rattle.std.proofs.Math.ListN.{get_or-map}
@@ -34,7 +35,9 @@ module _ {X : Type 0} (R : X → X → Type 0) where
 
   pub AllPairs-map : {Y : Type 0} (f : Y → X) (ys : List Y) → AllPairs (λ a b. R (f a) (f b)) ys → AllPairs R (map f ys)
   AllPairs-map f [] h = λ i j d lt within. absurd (omega arith)
-  AllPairs-map f (y ∷ ys) h = AllPairs-cons R (f y) (map f ys) (All-map (R (f y)) f ys (λ k d within. h zero (suc k) d (omega arith) (omega arith))) (AllPairs-map f ys (λ i j d lt within. h (suc i) (suc j) d (omega arith) (omega arith)))
+  AllPairs-map f (y ∷ ys) h =
+      AllPairs-cons R (f y) (map f ys) (All-map (R (f y)) f ys (λ k d within. h zero (suc k) d (omega arith) (omega arith)))
+      (AllPairs-map f ys (λ i j d lt within. h (suc i) (suc j) d (omega arith) (omega arith)))
 
   pub AllPairs-from_map : {Y : Type 0} (f : Y → X) (ys : List Y) → AllPairs R (map f ys) → AllPairs (λ a b. R (f a) (f b)) ys
   AllPairs-from_map f ys h i j d lt within = subst₂ R (get_or-map f ys i d) (get_or-map f ys j d) (h i j (f d) lt (omega (arith, length-map ys f)))
@@ -49,13 +52,15 @@ module _ {X : Type 0} (key : X → ℕ) where
   by_neighbours : (xs : List X) → AllAdjacentBelow (λ a b. true ≡ nat_lt (key a) (key b)) xs (length xs) → Ascends xs
   by_neighbours xs near i zero d lt within = absurd (omega arith)
   by_neighbours xs near i (suc j) d lt within =
-      let next : key (get_or xs j d) < key (get_or xs (suc j) d) = let e : j + 1 ≡ suc j = omega arith in subst (λ n. key (get_or xs j d) < key (get_or xs n d)) e (ltb-true _ _ (sym (near j d (omega arith)))) in
+      let next : key (get_or xs j d) < key (get_or xs (suc j) d) = let e : j + 1 ≡ suc j = omega arith in
+      subst (λ n. key (get_or xs j d) < key (get_or xs n d)) e (ltb-true _ _ (sym (near j d (omega arith)))) in
       elim (cases_lt i j) [
         | inl earlier ↦ omega (arith, by_neighbours xs near i j d earlier (omega arith), next)
         | inr last ↦ let same : i ≡ j = omega arith in rw same next
       ]
 
-  not_broken : (xs : List X) (k : ℕ) → k + 1 < length xs → ((d : X) → false ≡ nat_lt (key (get_or xs k d)) (key (get_or xs (k + 1) d))) → Ascends xs → IsTrue false
+  not_broken : (xs : List X) (k : ℕ) → k + 1 < length xs → ((d : X) → false ≡ nat_lt (key (get_or xs k d)) (key (get_or xs (k + 1) d)))
+      → Ascends xs → IsTrue false
   not_broken [] k within broken up = absurd (omega arith)
   not_broken (x ∷ xs) k within broken up = broken x ∙ lt-ltb _ _ (up k (k + 1) x (omega arith) within)
 

@@ -12,7 +12,8 @@ use Rattle.gw_flow.specs.Known.{kind_carried, parameter_carried, params_of}
 use Rattle.gw_flow.proofs.Ascending.{AllPairs-map}
 
 -- they ascend where those of the row do
-pub carried_ascends : (ps : List TableParameter) → AllPairs (λ (a b : TableParameter). a.number < b.number) ps → AllPairs (λ (a b : Parameter). a.number < b.number) (map parameter_carried ps)
+pub carried_ascends : (ps : List TableParameter) → AllPairs (λ (a b : TableParameter). a.number < b.number) ps
+    → AllPairs (λ (a b : Parameter). a.number < b.number) (map parameter_carried ps)
 carried_ascends ps up = AllPairs-map (λ (a b : Parameter). a.number < b.number) parameter_carried ps up
 
 kind_same : (rows : List ReturnRow) (kind : TableKind) → kind_seen rows (kind_carried kind) ≡ kind_said rows kind

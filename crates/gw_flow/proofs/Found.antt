@@ -13,13 +13,15 @@ found_later {X} (Err fault) cs ds none (inl h) = inl (joined {X = X} (Err fault)
 found_later (Err fault) cs ds none (inr h) = inr h
 
 -- a fault of one element, the first that is left, is that of all
-pub found_here : {A : Type 0} (f : ℕ → A → List Check) (number : ℕ) (xs : List A) (i : ℕ) (d : A) (total : Option Fault) → i < length xs → first_broken (checks_by_number f number (drop i xs)) ≡ total →
+pub found_here : {A : Type 0} (f : ℕ → A → List Check) (number : ℕ) (xs : List A) (i : ℕ) (d : A) (total : Option Fault) → i < length xs
+    → first_broken (checks_by_number f number (drop i xs)) ≡ total →
     (fault : Fault) → (first_broken (f number (get_or xs i d)) ≡ Some fault) ⊎ (fault ≡ out_of_memory) → (total ≡ Some fault) ⊎ (fault ≡ out_of_memory)
 found_here f number xs i d total below so_far fault (inl h) = inl (stops f number xs i d total below so_far fault h)
 found_here f number xs i d total below so_far fault (inr h) = inr h
 
 -- a fault of the first checks is that of the first and further checks
-pub found_first : (cs ds : List Check) (fault : Fault) → (first_broken cs ≡ Some fault) ⊎ (fault ≡ out_of_memory) → (first_broken (cs ++ ds) ≡ Some fault) ⊎ (fault ≡ out_of_memory)
+pub found_first : (cs ds : List Check) (fault : Fault) → (first_broken cs ≡ Some fault) ⊎ (fault ≡ out_of_memory)
+    → (first_broken (cs ++ ds) ≡ Some fault) ⊎ (fault ≡ out_of_memory)
 found_first cs ds fault (inl h) = inl (stops_first cs ds fault h)
 found_first cs ds fault (inr h) = inr h
 

@@ -1,5 +1,6 @@
 -- What is held, and whether it suffices for what is asked: both lists ascend, so each is walked once.
-use Rattle.std.proofs.Common.{◌≡◌, ◌≢◌, ℕ, ◌+◌, ◌≤◌, ◌<◌, Bool, true, false, ◌==◌, ◌&&◌, ◌||◌, List, [], ◌∷◌, length, get_or, drop, drop_of_length-le, Option, Some, None, map, refl, sym, ap, ap₂, subst, ◌∙◌, ⊎_elim, arith}
+use Rattle.std.proofs.Common.{◌≡◌, ◌≢◌, ℕ, ◌+◌, ◌≤◌, ◌<◌, Bool, true, false, ◌==◌, ◌&&◌, ◌||◌, List, [], ◌∷◌, length, get_or, drop, drop_of_length-le}
+use Rattle.std.proofs.Common.{Option, Some, None, map, refl, sym, ap, ap₂, subst, ◌∙◌, ⊎_elim, arith}
 use Rattle.std.specs.Prelude.{All}
 use Rattle.std.specs.List.{list_all, list_any}
 use Rattle.std.proofs.lemmas.Bool.{cases_eq, eq-eqb, ne_eqb}
@@ -37,21 +38,26 @@ module _ {X : Type 0} (key : X → ℕ) (enough : X → X → Bool) where
 
   -- what is below all that is asked isn't needed
   not_needed : (h : X) (hs asked : List X) → All (λ a. key h < key a) asked → has_each (h ∷ hs) asked ≡ has_each hs asked
-  not_needed h hs asked above = all_same (λ a. has (h ∷ hs) a) (λ a. has hs a) asked (λ i d within. ap (λ b. b || has hs (get_or asked i d)) (other h (get_or asked i d) (λ e. omega (arith, above i d within))))
+  not_needed h hs asked above =
+      all_same (λ a. has (h ∷ hs) a) (λ a. has hs a) asked
+      (λ i d within. ap (λ b. b || has hs (get_or asked i d)) (other h (get_or asked i d) (λ e. omega (arith, above i d within))))
 
   -- the first that is held is above the first that is asked
   lacks : (h a : X) (hs later : List X) → Ascends key (h ∷ hs) → key a < key h → has_each (h ∷ hs) (a ∷ later) ≡ false
   lacks h a hs later up below =
       let first = AllPairs-head (λ x y. key x < key y) h hs up in
-      ap (λ b. b && has_each (h ∷ hs) later) (none_above (h ∷ hs) a (All-cons (λ x. key a < key x) h hs below (λ i d within. omega (arith, below, first i d within))))
+      ap (λ b. b && has_each (h ∷ hs) later)
+      (none_above (h ∷ hs) a (All-cons (λ x. key a < key x) h hs below (λ i d within. omega (arith, below, first i d within))))
 
   -- it is of the same number
-  meets : (h a : X) (hs later : List X) → Ascends key (h ∷ hs) → Ascends key (a ∷ later) → key a ≡ key h → has_each (h ∷ hs) (a ∷ later) ≡ (enough h a && has_each hs later)
+  meets : (h a : X) (hs later : List X) → Ascends key (h ∷ hs) → Ascends key (a ∷ later) → key a ≡ key h → has_each (h ∷ hs) (a ∷ later)
+      ≡ (enough h a && has_each hs later)
   meets h a hs later up up_asked same =
       let first = AllPairs-head (λ x y. key x < key y) h hs up in
       let asked = AllPairs-head (λ x y. key x < key y) a later up_asked in
       ap₂ (λ b c. b && c)
-      (ap₂ (λ b c. (b && enough h a) || c) (eq-eqb (key h) (key a) (sym same)) (none_above hs a (λ i d within. omega (arith, same, first i d within))) ∙ or_false (enough h a))
+      (ap₂ (λ b c. (b && enough h a) || c) (eq-eqb (key h) (key a) (sym same))
+      (none_above hs a (λ i d within. omega (arith, same, first i d within))) ∙ or_false (enough h a))
       (not_needed h hs later (λ i d within. omega (arith, same, asked i d within)))
 
   -- it is below
@@ -93,7 +99,8 @@ module _ {X : Type 0} (key : X → ℕ) (enough : X → X → Bool) where
 
       -- it is of its number, and doesn't suffice
       pub not_enough : key a ≡ key h → enough h a ≡ false → has_each held asked ≡ false
-      not_enough same fails = here ∙ meets h a (drop (i + 1) held) later ascending ascending_asked same ∙ ap (λ b. b && has_each (drop (i + 1) held) later) fails
+      not_enough same fails = here ∙ meets h a (drop (i + 1) held) later ascending ascending_asked same
+          ∙ ap (λ b. b && has_each (drop (i + 1) held) later) fails
 
       -- it is of its number, and suffices
       pub met : key a ≡ key h → enough h a ≡ true → Left held asked later (i + 1)
@@ -128,14 +135,17 @@ module _ {X V : Type 0} (key : X → ℕ) (value : X → V) (fit : Option V → 
   own (x ∷ xs) up =
       let first = AllPairs-head (λ a b. key a < key b) x xs up in
       let later = own xs (AllPairs-tail (λ a b. key a < key b) x xs up) in
-      All-cons (λ y. entry (entries_of (x ∷ xs)) (key y) ≡ Some (value y)) x xs (rw (eq-eqb (key x) (key x) refl) refl) (λ i d within. not_first x (get_or xs i d) xs (first i d within) (later i d within))
+      All-cons (λ y. entry (entries_of (x ∷ xs)) (key y) ≡ Some (value y)) x xs (rw (eq-eqb (key x) (key x) refl) refl)
+      (λ i d within. not_first x (get_or xs i d) xs (first i d within) (later i d within))
 
-  by_entry : (held : List X) (a : X) → Ascends key held → fit None (Some (value a)) ≡ false → fit (entry (entries_of held) (key a)) (Some (value a)) ≡ has key suffices held a
+  by_entry : (held : List X) (a : X) → Ascends key held → fit None (Some (value a)) ≡ false
+      → fit (entry (entries_of held) (key a)) (Some (value a)) ≡ has key suffices held a
   by_entry [] a up none = none
   by_entry (h ∷ hs) a up none =
       let first = AllPairs-head (λ x y. key x < key y) h hs up in
       ⊎_elim
-      (λ (same : key h ≡ key a). rw (eq-eqb (key h) (key a) same) (sym (ap (λ b. suffices h a || b) (none_above key suffices hs a (λ i d within. omega (arith, same, first i d within))) ∙ or_false (suffices h a))))
+      (λ (same : key h ≡ key a). rw (eq-eqb (key h) (key a) same)
+      (sym (ap (λ b. suffices h a || b) (none_above key suffices hs a (λ i d within. omega (arith, same, first i d within))) ∙ or_false (suffices h a))))
       (λ (ne : key h ≢ key a). rw (ne_eqb (key h) (key a) ne) (by_entry hs a (AllPairs-tail (λ x y. key x < key y) h hs up) none))
       (cases_eq (key h) (key a))
 
@@ -144,5 +154,6 @@ module _ {X V : Type 0} (key : X → ℕ) (value : X → V) (fit : Option V → 
       has_each key suffices held asked ≡ list_all (λ e. fit (entry (entries_of held) e.0) (entry (entries_of asked) e.0)) (entries_of asked)
   each_by_entry held asked up up_asked none =
       all_same (λ a. has key suffices held a) (λ a. fit (entry (entries_of held) (key a)) (entry (entries_of asked) (key a))) asked
-      (λ i d within. sym (ap (fit (entry (entries_of held) (key (get_or asked i d)))) (own asked up_asked i d within) ∙ by_entry held (get_or asked i d) up (none i d within)))
+      (λ i d within. sym (ap (fit (entry (entries_of held) (key (get_or asked i d)))) (own asked up_asked i d within)
+      ∙ by_entry held (get_or asked i d) up (none i d within)))
       ∙ sym (list_all-map (λ (e : ℕ × V). fit (entry (entries_of held) e.0) (entry (entries_of asked) e.0)) (λ x. (key x, value x)) asked)

@@ -1,5 +1,6 @@
 -- States whose lists ascend, and whose amounts aren't 0.
-use Rattle.std.proofs.Common.{◌≡◌, ◌≢◌, ℕ, zero, ◌<◌, get_or, Bool, true, false, ◌==◌, if◌then◌else◌, List, [], ◌∷◌, ◌++◌, Option, Some, None, refl, sym, subst, append_assoc, true≢false, ◌∙◌, arith}
+use Rattle.std.proofs.Common.{◌≡◌, ◌≢◌, ℕ, zero, ◌<◌, get_or, Bool, true, false, ◌==◌, if◌then◌else◌, List, [], ◌∷◌, ◌++◌, Option, Some, None, refl}
+use Rattle.std.proofs.Common.{sym, subst, append_assoc, true≢false, ◌∙◌, arith}
 use Rattle.std.specs.Prelude.{All, AllPairs, filter, nat_lt, not, option_map, option_to_list}
 use Rattle.std.proofs.lemmas.List.Elements.{All-nil, All-cons, All-append, All-map, All-filter}
 use Rattle.std.proofs.lemmas.List.Kept.{AllPairs-filter}
@@ -49,7 +50,8 @@ module _ (rows : List ReturnRow) (up : All AreAscending rows) where
   pub parts_ordered : (s : StateParts) → PartsAscend s → IsOrdered (known_row rows s)
   parts_ordered s h = record {
     params = AllPairs-map (λ (a b : ℕ × ParamKind). a.0 < b.0) (λ (p : Parameter). (p.number, kind_seen rows p.kind)) s.parameters h.parameters;
-    returns = All-map (λ (e : ℕ × ParamKind). KindAscends e.1) (λ (p : Parameter). (p.number, kind_seen rows p.kind)) s.parameters (λ i d within. seen_ascends (get_or s.parameters i d).kind);
+    returns = All-map (λ (e : ℕ × ParamKind). KindAscends e.1) (λ (p : Parameter). (p.number, kind_seen rows p.kind)) s.parameters
+        (λ i d within. seen_ascends (get_or s.parameters i d).kind);
     facilities = h.facilities;
     units = AllPairs-map (λ (a b : ℕ × ℕ). a.0 < b.0) (λ (u : Amount). (u.entity, u.number)) s.units h.units;
     amounts = All-map (λ (e : ℕ × ℕ). e.1 ≢ 0) (λ (u : Amount). (u.entity, u.number)) s.units h.amounts;
@@ -61,7 +63,8 @@ module _ (rows : List ReturnRow) (up : All AreAscending rows) where
   pub row_ordered : (row : TableState) → IsAscending row → All HeldFits row.units → IsOrdered (row_meaning rows row)
   row_ordered row h held = record {
     params = AllPairs-map (λ (a b : ℕ × ParamKind). a.0 < b.0) (λ (p : TableParameter). (p.number, kind_said rows p.kind)) row.parameters h.parameters;
-    returns = All-map (λ (e : ℕ × ParamKind). KindAscends e.1) (λ (p : TableParameter). (p.number, kind_said rows p.kind)) row.parameters (λ i d within. said_ascends (get_or row.parameters i d).kind);
+    returns = All-map (λ (e : ℕ × ParamKind). KindAscends e.1) (λ (p : TableParameter). (p.number, kind_said rows p.kind)) row.parameters
+        (λ i d within. said_ascends (get_or row.parameters i d).kind);
     facilities = h.facilities;
     units = AllPairs-map (λ (a b : ℕ × ℕ). a.0 < b.0) (λ (u : Units). (u.entity, u.number)) row.units h.units;
     amounts = All-map (λ (e : ℕ × ℕ). e.1 ≢ 0) (λ (u : Units). (u.entity, u.number)) row.units (λ i d within zero. omega (arith, (held i d within).least));
@@ -103,7 +106,8 @@ alone_at n None = All-nil (λ e. e.0 ≡ n)
 alone_at n (Some v) = All-cons (λ e. e.0 ≡ n) (n, v) [] refl (All-nil (λ e. e.0 ≡ n))
 
 -- entries with one more ascend
-pub with_entry_ascends : {X : Type 0} (n : ℕ) (value : Option X) (es : List (ℕ × X)) → Ascends (λ (e : ℕ × X). e.0) es → Ascends (λ (e : ℕ × X). e.0) (with_entry n value es)
+pub with_entry_ascends : {X : Type 0} (n : ℕ) (value : Option X) (es : List (ℕ × X)) → Ascends (λ (e : ℕ × X). e.0) es
+    → Ascends (λ (e : ℕ × X). e.0) (with_entry n value es)
 with_entry_ascends n value es up = ascends_placed (λ e. e.0) n (alone n value) es (alone_ascends n value) (alone_at n value) up
 
 entered_not_0 : (b : Bool) (e n : ℕ) → (n == 0) ≡ b → All (λ (x : ℕ × ℕ). x.1 ≢ 0) (alone e (if b then None else Some n))
@@ -111,7 +115,8 @@ entered_not_0 true e n is = All-nil (λ (x : ℕ × ℕ). x.1 ≢ 0)
 entered_not_0 false e n is = All-cons (λ (x : ℕ × ℕ). x.1 ≢ 0) (e, n) [] (λ zero. true≢false (sym (eq-eqb n 0 zero) ∙ is)) (All-nil (λ (x : ℕ × ℕ). x.1 ≢ 0))
 
 -- what holds of each entry, and of one that is entered if there is one, holds of each then
-with_entry_keeps : {X : Type 0} (P : ℕ × X → Type 0) (n : ℕ) (value : Option X) (es : List (ℕ × X)) → All P (alone n value) → All P es → All P (with_entry n value es)
+with_entry_keeps : {X : Type 0} (P : ℕ × X → Type 0) (n : ℕ) (value : Option X) (es : List (ℕ × X)) → All P (alone n value) → All P es
+    → All P (with_entry n value es)
 with_entry_keeps P n value es here all =
     All-append P (filter (λ x. nat_lt x.0 n) es ++ alone n value) (filter (λ x. nat_lt n x.0) es)
     (All-append P (filter (λ x. nat_lt x.0 n) es) (alone n value) (All-filter (λ x. nat_lt x.0 n) P es all) here)
@@ -122,26 +127,47 @@ with_entry_not_0 : (e n : ℕ) (es : List (ℕ × ℕ)) → All (λ (x : ℕ × 
 with_entry_not_0 e n es all = with_entry_keeps (λ (x : ℕ × ℕ). x.1 ≢ 0) e (nonzero n) es (entered_not_0 (n == 0) e n refl) all
 
 -- parameters ascend once one is put in its place
-pub in_place_ascends : (p : Parameter) (ps : List Parameter) → AllPairs (λ (a b : Parameter). a.number < b.number) ps → AllPairs (λ (a b : Parameter). a.number < b.number) (in_place (λ (q : Parameter). q.number) p ps)
+pub in_place_ascends : (p : Parameter) (ps : List Parameter) → AllPairs (λ (a b : Parameter). a.number < b.number) ps
+    → AllPairs (λ (a b : Parameter). a.number < b.number) (in_place (λ (q : Parameter). q.number) p ps)
 in_place_ascends p ps up =
-    subst (AllPairs (λ (a b : Parameter). a.number < b.number)) (append_assoc (filter (λ (q : Parameter). nat_lt q.number p.number) ps) (p ∷ []) (filter (λ (q : Parameter). nat_lt p.number q.number) ps))
-    (ascends_placed (λ (q : Parameter). q.number) p.number (p ∷ []) ps (one_ascends (λ (q : Parameter). q.number) p) (All-cons (λ (q : Parameter). q.number ≡ p.number) p [] refl (All-nil (λ (q : Parameter). q.number ≡ p.number))) up)
+    subst (AllPairs (λ (a b : Parameter). a.number < b.number))
+    (append_assoc (filter (λ (q : Parameter). nat_lt q.number p.number) ps) (p ∷ []) (filter (λ (q : Parameter). nat_lt p.number q.number) ps))
+    (ascends_placed (λ (q : Parameter). q.number) p.number (p ∷ []) ps (one_ascends (λ (q : Parameter). q.number) p)
+    (All-cons (λ (q : Parameter). q.number ≡ p.number) p [] refl (All-nil (λ (q : Parameter). q.number ≡ p.number))) up)
 
 module _ (row : Row) (h : IsOrdered row) where
   pub with_parameter_ordered : (p : ℕ) (kind : ParamKind) → KindAscends kind → IsOrdered (with_parameter p kind row)
   with_parameter_ordered p kind ascends = record {
     params = with_entry_ascends p (Some kind) row.params h.params;
-    returns = with_entry_keeps (λ (e : ℕ × ParamKind). KindAscends e.1) p (Some kind) row.params (All-cons (λ (e : ℕ × ParamKind). KindAscends e.1) (p, kind) [] ascends (All-nil (λ (e : ℕ × ParamKind). KindAscends e.1))) h.returns;
+    returns = with_entry_keeps (λ (e : ℕ × ParamKind). KindAscends e.1) p (Some kind) row.params
+        (All-cons (λ (e : ℕ × ParamKind). KindAscends e.1) (p, kind) [] ascends (All-nil (λ (e : ℕ × ParamKind). KindAscends e.1))) h.returns;
     facilities = h.facilities;
     units = h.units;
     amounts = h.amounts;
   }
 
   pub with_facility_ordered : (f : ℕ) → IsOrdered (with_facility f row)
-  with_facility_ordered f = record { params = h.params; returns = h.returns; facilities = with_number_ascends f row.facilities h.facilities; units = h.units; amounts = h.amounts }
+  with_facility_ordered f =
+      record { params = h.params; returns = h.returns; facilities = with_number_ascends f row.facilities h.facilities; units = h.units; amounts = h.amounts }
 
   pub without_facility_ordered : (f : ℕ) → IsOrdered (without_facility f row)
-  without_facility_ordered f = record { params = h.params; returns = h.returns; facilities = AllPairs-filter (λ a b. a < b) (λ m. not (m == f)) row.facilities h.facilities; units = h.units; amounts = h.amounts }
+  without_facility_ordered f =
+      record {
+        params = h.params;
+        returns = h.returns;
+        facilities =
+            AllPairs-filter (λ a b. a < b) (λ m. not (m == f)) row.facilities h.facilities;
+        units = h.units;
+        amounts = h.amounts;
+      }
 
   pub with_units_ordered : (e n : ℕ) → IsOrdered (with_units e n row)
-  with_units_ordered e n = record { params = h.params; returns = h.returns; facilities = h.facilities; units = with_entry_ascends e (nonzero n) row.units h.units; amounts = with_entry_not_0 e n row.units h.amounts }
+  with_units_ordered e n =
+      record {
+        params = h.params;
+        returns = h.returns;
+        facilities = h.facilities;
+        units =
+            with_entry_ascends e (nonzero n) row.units h.units;
+        amounts = with_entry_not_0 e n row.units h.amounts;
+      }

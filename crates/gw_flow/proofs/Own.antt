@@ -17,7 +17,8 @@ use Rattle.gw_rules.specs.Rows.{ParamKind, Row}
 use Rattle.gw_rules.specs.Seen.{kind_seen}
 use Rattle.gw_flow.specs.Known.{params_of, known_row}
 use Rattle.gw_flow.specs.Answered.{parameters_with}
-use Rattle.gw_rules.specs.Blocks.{number_in, parameter_set, with_setting, after, returns_read, move, is_used, known_of, edge_along, edges_along, edges_from, join, joins}
+use Rattle.gw_rules.specs.Blocks.{number_in, parameter_set, with_setting, after, returns_read, move, is_used, known_of, edge_along, edges_along}
+use Rattle.gw_rules.specs.Blocks.{edges_from, join, joins}
 use Rattle.gw_rules.proofs.Chains.{ChainUse, Links, Unlinks, Neither, chain_use}
 use Rattle.gw_rules.proofs.Entries.{entries-in_place}
 use Rattle.gw_rules.proofs.Parameters.{after_params}
@@ -39,14 +40,16 @@ set_names_none b (blocks.Mark q) = number_names_none q
 set_names_none b (blocks.Plus a) = number_names_none a.parameter
 set_names_none b block = tt
 
-own_with : (rows : List ReturnRow) (set : Option Parameter) (s : StateParts) → NamesNoRow set → (with_setting set (known_row rows s)).params ≡ params_of rows (parameters_with set s.parameters)
+own_with : (rows : List ReturnRow) (set : Option Parameter) (s : StateParts) → NamesNoRow set
+    → (with_setting set (known_row rows s)).params ≡ params_of rows (parameters_with set s.parameters)
 own_with rows None s none = refl
 own_with rows (Some set) s none =
     ap (λ kind. with_entry set.number (Some kind) (params_of rows s.parameters)) (sym (none rows))
     ∙ sym (entries-in_place (λ (q : Parameter). q.number) (λ (q : Parameter). kind_seen rows q.kind) set s.parameters)
 
 -- what is known of parameters after a block is what the given ones say, but the one that it sets
-pub own_after : (rows : List ReturnRow) (b : ℕ) (block : Block) (s : StateParts) → (after b block (known_row rows s)).params ≡ params_of rows (parameters_with (parameter_set b block) s.parameters)
+pub own_after : (rows : List ReturnRow) (b : ℕ) (block : Block) (s : StateParts) → (after b block (known_row rows s)).params
+    ≡ params_of rows (parameters_with (parameter_set b block) s.parameters)
 own_after rows b block s = after_params b block (known_row rows s) ∙ own_with rows (parameter_set b block) s (set_names_none b block)
 
 -- who goes along an exit has the parameters of who entered
@@ -79,7 +82,8 @@ module _ (params : List (ℕ × ParamKind)) where
 
 -- and so at each edge of who enters the block
 pub own_at_edges : (rows : List ReturnRow) (b : ℕ) (block : Block) (s : StateParts) →
-    All (λ (e : FlowEdge). e.state.params ≡ params_of rows (parameters_with (parameter_set b block) s.parameters)) (edges_from b block (known_row rows s) ++ joins block (known_row rows s))
+    All (λ (e : FlowEdge). e.state.params ≡ params_of rows (parameters_with (parameter_set b block) s.parameters))
+    (edges_from b block (known_row rows s) ++ joins block (known_row rows s))
 own_at_edges rows b block s =
     let params = params_of rows (parameters_with (parameter_set b block) s.parameters) in
     let state = known_row rows s in
@@ -88,6 +92,7 @@ own_at_edges rows b block s =
     (at_join params b block state (chain_use block) (own_after rows b block s))
 
 -- parameters ascend once one is set, if one is
-pub with_ascends : (set : Option Parameter) (ps : List Parameter) → AllPairs (λ (a b : Parameter). a.number < b.number) ps → AllPairs (λ (a b : Parameter). a.number < b.number) (parameters_with set ps)
+pub with_ascends : (set : Option Parameter) (ps : List Parameter) → AllPairs (λ (a b : Parameter). a.number < b.number) ps
+    → AllPairs (λ (a b : Parameter). a.number < b.number) (parameters_with set ps)
 with_ascends None ps up = up
 with_ascends (Some p) ps up = in_place_ascends p ps up

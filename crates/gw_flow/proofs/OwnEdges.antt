@@ -22,7 +22,8 @@ none_said rows [] h = refl
 none_said rows (e ∷ out) h = absurd cc
 
 -- of one edge and more the first is that one
-first_of : (P : Edge → Type 0) (rows : List ReturnRow) (e : FlowEdge) (out more : List Edge) → SayTheSame rows out (e ∷ []) → All P out → All P (take 1 (out ++ more))
+first_of : (P : Edge → Type 0) (rows : List ReturnRow) (e : FlowEdge) (out more : List Edge) → SayTheSame rows out (e ∷ []) → All P out
+    → All P (take 1 (out ++ more))
 first_of P rows e [] more h all = absurd cc
 first_of P rows e (o ∷ out) more h all = All-cons P o [] (All-head P o out all) (All-nil P)
 
@@ -32,7 +33,9 @@ own_all state (blocks.Unlink u) none out = let some : members_edges (λ _. Some 
 own_all state block none out = refl
 
 -- the edges of who enters have the parameters of who enters, whatever those of members have
-pub all_have_own : (rows : List ReturnRow) (table : Table) (b : ℕ) (block : Block) (state : Row) (given : List Parameter) (out more : List Edge) → ChainUse block → SayTheSame rows out (edges_from b block state ++ joins block state) → SayTheSame rows more (members_edges table block) →
+pub all_have_own : (rows : List ReturnRow) (table : Table) (b : ℕ) (block : Block) (state : Row) (given : List Parameter)
+    (out more : List Edge) → ChainUse block → SayTheSame rows out (edges_from b block state ++ joins block state)
+    → SayTheSame rows more (members_edges table block) →
     All (λ (e : Edge). e.state.parameters ≡ parameters_with (parameter_set b block) given) out → HaveOwn (out ++ more) b block given
 all_have_own rows table b _ state given out more (Links l) h g all =
     let alone : out ++ more ≡ out = ap (λ xs. out ++ xs) (none_said rows more g) ∙ append-nil out in

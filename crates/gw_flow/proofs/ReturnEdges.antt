@@ -49,7 +49,8 @@ module _ (table : Table) where
       (after_fewer bs cs state row parts.1 h all)
 
   -- who fits another state by a return that fits passes where that one does
-  pub returns_like : (held said : ParamKind) (state row : Row) → IsTrue (kind_fits (Some held) (Some said)) → Fits state row → MayReturn table row said → MayReturn table state held
+  pub returns_like : (held said : ParamKind) (state row : Row) → IsTrue (kind_fits (Some held) (Some said)) → Fits state row
+      → MayReturn table row said → MayReturn table state held
   returns_like (Ret bs) (Ret cs) state row kinds h pass = record { by_return = refl; each_block = after_fewer bs cs state row kinds h pass.each_block }
   returns_like Num (Ret cs) state row kinds h pass = absurd (false≢true kinds)
   returns_like held Num state row kinds h pass = absurd (false≢true pass.by_return)
@@ -59,7 +60,8 @@ module _ (table : Table) where
   edges_arrive : (b : ℕ) (bs : List ℕ) (state : Row) → All (After state) bs → All Arrives (edges_along b (map returns_to bs) state)
   edges_arrive b [] state all = All-nil Arrives
   edges_arrive b (c ∷ bs) state all =
-      All-cons Arrives (move (c + 1) state) (edges_along b (map returns_to bs) state) (All-head (After state) c bs all) (edges_arrive b bs state (All-tail (After state) c bs all))
+      All-cons Arrives (move (c + 1) state) (edges_along b (map returns_to bs) state) (All-head (After state) c bs all)
+      (edges_arrive b bs state (All-tail (After state) c bs all))
 
   blocks_after : (b : ℕ) (bs : List ℕ) (state : Row) → All Arrives (edges_along b (map returns_to bs) state) → All (After state) bs
   blocks_after b [] state all = All-nil (After state)
@@ -79,7 +81,8 @@ module _ (table : Table) where
         let returns = rule codes.param_kind (is_return (kind_of state q)) in
         may_pass_holds p table b (blocks.TransferByParameter q) state (record {
           each_rule = All-cons Holds set (returns ∷ []) (ap is_some held) (All-cons Holds returns [] (ap is_return held ∙ pass.by_return) (All-nil Holds));
-          each_edge = All-append Arrives (edges_from b (blocks.TransferByParameter q) state) [] (edges_arrive b (return_blocks (kind_of state q)) state (rw held pass.each_block)) (All-nil Arrives);
+          each_edge = All-append Arrives (edges_from b (blocks.TransferByParameter q) state) []
+              (edges_arrive b (return_blocks (kind_of state q)) state (rw held pass.each_block)) (All-nil Arrives);
         })
 
     -- and one that breaks no check has such a return
@@ -88,7 +91,8 @@ module _ (table : Table) where
         let pass = may_pass p table b (blocks.TransferByParameter q) state h in
         let set = rule codes.unset_param (is_some (kind_of state q)) in
         let returns = rule codes.param_kind (is_return (kind_of state q)) in
-        let edges = All-front Arrives (edges_from b (blocks.TransferByParameter q) state) (chain_edges table (blocks.TransferByParameter q) state) pass.each_edge in
+        let edges = All-front Arrives (edges_from b (blocks.TransferByParameter q) state)
+        (chain_edges table (blocks.TransferByParameter q) state) pass.each_edge in
         record {
           by_return = sym (ap is_return held) ∙ All-head Holds returns [] (All-tail Holds set (returns ∷ []) pass.each_rule);
           each_block = subst (λ k. All (After state) (return_blocks k)) held (blocks_after b (return_blocks (kind_of state q)) state edges);

@@ -1,5 +1,6 @@
 -- The least unfit parameter decides what a test of all that are read finds.
-use Rattle.std.proofs.Common.{◌≡◌, ⊎_elim, ℕ, ◌+◌, ◌<◌, List, [], ◌∷◌, ◌++◌, length, map, take, get_or, Option, Some, None, Bool, true, false, cond, if◌then◌else◌, nat_lt, not, refl, sym, ap, subst, ◌∙◌, arith}
+use Rattle.std.proofs.Common.{◌≡◌, ⊎_elim, ℕ, ◌+◌, ◌<◌, List, [], ◌∷◌, ◌++◌, length, map, take, get_or, Option, Some, None, Bool, true, false, cond}
+use Rattle.std.proofs.Common.{if◌then◌else◌, nat_lt, not, refl, sym, ap, subst, ◌∙◌, arith}
 use Rattle.std.specs.Prelude.{All, AllPairs, is_some, filter}
 use Rattle.std.specs.List.{find, fold, flat_map}
 use Rattle.std.proofs.lemmas.Bool.{cases_order, lt-ltb, le-ltb, le-leb, lt-leb}
@@ -95,12 +96,15 @@ module _ (bad : ℕ → Bool) where
 
 module _ (state : Row) where
   -- the least unfit parameter once others are in their places too
-  find_with : (ps all : List ℕ) → AllPairs (λ a b. a < b) all → find (is_unfit state) (fold (λ ms n. with_number n ms) all ps) ≡ lowest state (find (is_unfit state) all) ps
+  find_with : (ps all : List ℕ) → AllPairs (λ a b. a < b) all → find (is_unfit state) (fold (λ ms n. with_number n ms) all ps)
+      ≡ lowest state (find (is_unfit state) all) ps
   find_with [] all up = refl
-  find_with (p ∷ ps) all up = find_with ps (with_number p all) (with_number_ascends p all up) ∙ ap (λ least. lowest state least ps) (find-placed (is_unfit state) p all up)
+  find_with (p ∷ ps) all up = find_with ps (with_number p all) (with_number_ascends p all up)
+      ∙ ap (λ least. lowest state least ps) (find-placed (is_unfit state) p all up)
 
   -- the least unfit parameter once one more operand is read
-  lowered_by : (p : Parts) (os : List Operand) (o : Operand) → find (is_unfit state) (parameters_read p (os ++ o ∷ [])) ≡ lowest state (find (is_unfit state) (parameters_read p os)) (parameters_asked p o)
+  lowered_by : (p : Parts) (os : List Operand) (o : Operand) → find (is_unfit state) (parameters_read p (os ++ o ∷ []))
+      ≡ lowest state (find (is_unfit state) (parameters_read p os)) (parameters_asked p o)
   lowered_by p os o =
       let asked = flat_map (parameters_asked p) os in
       ap (λ ps. find (is_unfit state) (in_order ps)) (sym (flat_map_more (parameters_asked p) [] os o))
@@ -109,7 +113,8 @@ module _ (state : Row) where
 
   -- the least so far is that of the operands so far once it is lowered to what the next one asks for
   pub lowered_so_far : (p : Parts) (os : List Operand) (i : ℕ) (d : Operand) → i < length os → (so_far least : Option ℕ) →
-      so_far ≡ find (is_unfit state) (parameters_read p (take i os)) → least ≡ lowest state so_far (parameters_asked p (get_or os i d)) → least ≡ find (is_unfit state) (parameters_read p (take (i + 1) os))
+      so_far ≡ find (is_unfit state) (parameters_read p (take i os)) → least ≡ lowest state so_far (parameters_asked p (get_or os i d))
+      → least ≡ find (is_unfit state) (parameters_read p (take (i + 1) os))
   lowered_so_far p os i d within so_far least before is =
       is
       ∙ ap (λ so_far. lowest state so_far (parameters_asked p (get_or os i d))) before

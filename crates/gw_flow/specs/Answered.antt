@@ -86,7 +86,9 @@ ForBlock p b fact = (block : Block) → block_at p.blocks b ≡ Some block → f
 abbrev pub rule_checks_in : Parts → ℕ → StateParts → Block → List Check
 rule_checks_in p b s block = rule_checks p b block (known_row p.returns s)
 
--- what a call answers for the edges of the block of number b in a state: the fault of the first rule that is broken; else its edges, in order, unless memory ran out
+-- what a call answers for the edges of the block of number b in a state: the fault of the first rule that is broken;
+-- else its edges, in order, unless memory ran out
 abbrev pub AnswersEdges : Parts → ℕ → StateParts → Result (Vec Edge Global) Fault → Block → Type 0
 AnswersEdges p b s (Ok out) block = (first_broken (rule_checks_in p b s block) ≡ None) × AreEdges p b block s out.items
-AnswersEdges p b s (Err fault) block = (first_broken (rule_checks_in p b s block) ≡ Some fault) ⊎ ((first_broken (rule_checks_in p b s block) ≡ None) × (fault ≡ out_of_memory))
+AnswersEdges p b s (Err fault) block = (first_broken (rule_checks_in p b s block) ≡ Some fault)
+    ⊎ ((first_broken (rule_checks_in p b s block) ≡ None) × (fault ≡ out_of_memory))

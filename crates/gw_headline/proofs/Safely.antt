@@ -6,7 +6,8 @@ use Rattle.gw_step.proofs.Slices.{one_state}
 use Rattle.gw_step.proofs.Safe.{checked_objects_start, reached_states_are_well_typed, well_typed_states_step, no_job_is_stuck}
 use Rattle.gw_step.proofs.Moment.{entries_are_within_weight}
 use Rattle.gw_service.specs.Rows.{Row, Jobs, change_row, new_row, taken_row, returned_row, cancelled_row}
-use Rattle.gw_service.specs.Journal.{Event, Submit, Take, Return, Cancel, OfRow, HasState, MayReturn, MayCome, EachMayCome, SubmitsAccepted, AllSubmitAccepted, apply, no_jobs, replay_from}
+use Rattle.gw_service.specs.Journal.{Event, Submit, Take, Return, Cancel, OfRow, HasState, MayReturn, MayCome, EachMayCome, SubmitsAccepted}
+use Rattle.gw_service.specs.Journal.{AllSubmitAccepted, apply, no_jobs, replay_from}
 use Rattle.gw_headline.specs.Headline.{AcceptedJobsRunSafely, VerifiedObjectsRunSafely, ServicesRunSafely}
 
 -- a job of an accepted object runs safely

@@ -20,7 +20,8 @@ pub record StandsWith (t : Standing) (p : Progress) : Type 0 where
   pub holds : HoldsFor p.job p.state.steps t
   pub standing : standing_of t ≡ standing_at p.job p.state.steps
 
-by_end : (o : Option End) (p : Progress) (end : End) → is_over p.job p.state.steps ≡ is_some o → statuses.Ended end ≡ status_at o → StandsWith (standings.Ended p) p
+by_end : (o : Option End) (p : Progress) (end : End) → is_over p.job p.state.steps ≡ is_some o → statuses.Ended end ≡ status_at o
+    → StandsWith (standings.Ended p) p
 by_end None p end over is = absurd cc
 by_end (Some e) p end over is = record { holds = (record { job = refl; steps = refl }, over); standing = rw over refl }
 

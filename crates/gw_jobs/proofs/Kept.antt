@@ -1,5 +1,6 @@
 -- What each call keeps of a table.
-use Rattle.std.proofs.Common.{◌≡◌, ℕ, zero, suc, ◌+◌, ◌*◌, ◌≤◌, List, [], ◌∷◌, ◌++◌, length, set, get_or, Option, Some, None, Bool, true, false, refl, sym, ap, subst, ◌∙◌, arith}
+use Rattle.std.proofs.Common.{◌≡◌, ℕ, zero, suc, ◌+◌, ◌*◌, ◌≤◌, List, [], ◌∷◌, ◌++◌, length, set, get_or, Option, Some, None, Bool, true, false, refl}
+use Rattle.std.proofs.Common.{sym, ap, subst, ◌∙◌, arith}
 use Rattle.std.specs.Prelude.{IsSome, MatchOption, IfOk, is_err, Result, Ok, Err, nat_lt, nat_le, ◌<◌, ◌&&◌, ◌==◌, ◌^◌, drop, sum_by, if◌then◌else◌}
 use Rattle.std.specs.List.{slice_get, filter}
 use Rattle.std.proofs.lemmas.List.Sums.{sum_by-cons}
@@ -16,12 +17,16 @@ use Rattle.gw_jobs.specs.Journal.{submits_in}
 use Rattle.gw_jobs.specs.Table.{service, AreKept}
 use Rattle.gw_jobs.specs.Running.{runs_for}
 use Rattle.gw_jobs.specs.Answers.{IsStateIn, GoesOut, IsOutWith, Fits, IsReceiptOf, ComesBack}
-use Rattle.gw_jobs.proofs.Stored.{tells_take, tells_return, tells_cancel, no-submit, one-submit, take_service, return_service, cancel_service, submit_service, length-events}
+use Rattle.gw_jobs.proofs.Stored.{tells_take, tells_return, tells_cancel, no-submit, one-submit, take_service, return_service, cancel_service}
+use Rattle.gw_jobs.proofs.Stored.{submit_service, length-events}
 use Rattle.gw_service.specs.declared.faults.JobFault.{JobFault}
 use Rattle.gw_service.specs.declared.faults.JobFault.TheVariants as faults
-use Rattle.gw_service.specs.Rows.{Row, change_row, new_row, taken_row, returned_row, cancelled_row, is_ready, is_out, is_running, out_of, steps_of, own_row, rows_of, running_in, standing_at}
-use Rattle.gw_service.specs.Journal.{Service, Event, Submit, Take, Return, Cancel, HasState, SubmitsAccepted, AllSubmitAccepted, slot_if_ready, ready_without, with_event}
-use Rattle.gw_service.specs.Calls.{Pass, Receipt, admit, row_in, most_events, is_journal_full, submit_refusal, submit_fault, cancel_refusal, cancel_fault, take_from, take_reply, fits_row, receipt_of, receipt_for, give_back_reply, Refuses, RefusesTake}
+use Rattle.gw_service.specs.Rows.{Row, change_row, new_row, taken_row, returned_row, cancelled_row, is_ready, is_out, is_running, out_of, steps_of}
+use Rattle.gw_service.specs.Rows.{own_row, rows_of, running_in, standing_at}
+use Rattle.gw_service.specs.Journal.{Service, Event, Submit, Take, Return, Cancel, HasState, SubmitsAccepted, AllSubmitAccepted, slot_if_ready}
+use Rattle.gw_service.specs.Journal.{ready_without, with_event}
+use Rattle.gw_service.specs.Calls.{Pass, Receipt, admit, row_in, most_events, is_journal_full, submit_refusal, submit_fault, cancel_refusal}
+use Rattle.gw_service.specs.Calls.{cancel_fault, take_from, take_reply, fits_row, receipt_of, receipt_for, give_back_reply, Refuses, RefusesTake}
 use Rattle.gw_service.specs.Machine.{Submits, Cancels, Takes, GivesBack, take_event, return_event, event_unless}
 use Rattle.gw_service.specs.Keeping.{counts_ready, IsKept, AreReached, IsSound, steps_in}
 use Rattle.gw_service.proofs.Rows.{self_equal}
@@ -48,15 +53,18 @@ own-other true p r h other = other-job (same_job r.job p.job) r other
 own-other false p r h other = absurd cc
 
 -- a pass for a user's row with another job is refused
-pub is_stranger : (p : Pass) (rows : List Row) (r : Row) → slice_get rows p.slot ≡ Some r → r.user ≡ p.user → same_job r.job p.job ≡ false → row_in p rows ≡ Err faults.Stranger
+pub is_stranger : (p : Pass) (rows : List Row) (r : Row) → slice_get rows p.slot ≡ Some r → r.user ≡ p.user → same_job r.job p.job ≡ false
+    → row_in p rows ≡ Err faults.Stranger
 is_stranger p rows r here user other =
     let own : (r.user == p.user) ≡ true = subst (λ (u : ℕ). (r.user == u) ≡ true) user (self_equal r.user) in
     ap (λ (o : Option Row). admit p.job (own_row p.user o)) here ∙ own-other (r.user == p.user) p r own other
 
 -- RUNNING
 
-one-more : (a b : Bool) (r : Row) (rows : List Row) (u : ℕ) → a ≡ (r.user == u) → b ≡ is_running r.standing → running_in (rows_of u rows) ≡ length (filter (runs_for u) rows)
-    → length (filter (λ (q : Row). is_running q.standing) (if a then r ∷ rows_of u rows else rows_of u rows)) ≡ length (if a && b then r ∷ filter (runs_for u) rows else filter (runs_for u) rows)
+one-more : (a b : Bool) (r : Row) (rows : List Row) (u : ℕ) → a ≡ (r.user == u) → b ≡ is_running r.standing → running_in (rows_of u rows)
+    ≡ length (filter (runs_for u) rows)
+    → length (filter (λ (q : Row). is_running q.standing) (if a then r ∷ rows_of u rows else rows_of u rows))
+    ≡ length (if a && b then r ∷ filter (runs_for u) rows else filter (runs_for u) rows)
 one-more true true r rows u own is h = rw (sym is) (ap suc h)
 one-more true false r rows u own is h = rw (sym is) h
 one-more false b r rows u own is h = h
@@ -72,7 +80,8 @@ set-changed k f [] r h = refl
 set-changed zero f (q ∷ rows) r h = let same : q ≡ r = cc in ap (λ (x : Row). f x ∷ rows) (sym same)
 set-changed (suc k) f (q ∷ rows) r h = ap (λ (xs : List Row). q ∷ xs) (set-changed k f rows r h)
 
-pub changed-at : (rows : List Row) (k : ℕ) (f : Row → Row) (x new r : Row) → slice_get rows k ≡ Some r → x ≡ get_or rows k x → new ≡ f x → set rows k new ≡ change_row k f rows
+pub changed-at : (rows : List Row) (k : ℕ) (f : Row → Row) (x new r : Row) → slice_get rows k ≡ Some r → x ≡ get_or rows k x → new ≡ f x
+    → set rows k new ≡ change_row k f rows
 changed-at rows k f x new r here old is = ap (set rows k) (is ∙ ap f (old ∙ get_or_from_slice_get rows k r x here)) ∙ set-changed k f rows r here
 
 pub ready_row : (o : Option Row) → counts_ready o ≡ 1 → ReadyRow o
@@ -95,10 +104,12 @@ state_in sim o r is h = subst (IsStateIn sim) is h
 -- LIMITS
 
 -- the stored journal is full exactly where the service's is
-pub full_is : (rows : List Row) (ready : List ℕ) (journal : List StoredEvent) (out steps need : ℕ) → AreKept rows ready journal out steps → nat_lt most_events (length journal + out + need) ≡ is_journal_full need (service rows ready journal)
+pub full_is : (rows : List Row) (ready : List ℕ) (journal : List StoredEvent) (out steps need : ℕ) → AreKept rows ready journal out steps
+    → nat_lt most_events (length journal + out + need) ≡ is_journal_full need (service rows ready journal)
 full_is rows ready journal out steps need kept =
     let most : submits_in journal ≤ length rows = omega (arith, kept.submits) in
-    let same : length journal + out + need ≡ length (service rows ready journal).journal + out_of rows + need = omega (arith, kept.out_is, length-events rows journal most) in
+    let same : length journal + out + need ≡ length (service rows ready journal).journal + out_of rows + need =
+    omega (arith, kept.out_is, length-events rows journal most) in
     ap (nat_lt most_events) same
 
 -- ACCEPTED OBJECTS
@@ -109,7 +120,9 @@ accepted_after e s t is all one = subst (λ (x : Service). AllSubmitAccepted x.j
 
 -- TAKE
 
-pub take_reply_is : (rows : List Row) (ready : List ℕ) (journal : List StoredEvent) (out steps : ℕ) (full : Bool) → AreKept rows ready journal out steps → full ≡ nat_lt most_events (length journal + out + 2) → take_from ready full ≡ take_reply (service rows ready journal)
+pub take_reply_is : (rows : List Row) (ready : List ℕ) (journal : List StoredEvent) (out steps : ℕ) (full : Bool)
+    → AreKept rows ready journal out steps → full ≡ nat_lt most_events (length journal + out + 2) → take_from ready full
+    ≡ take_reply (service rows ready journal)
 take_reply_is rows ready journal out steps full kept is = ap (take_from ready) (is ∙ full_is rows ready journal out steps 2 kept)
 
 -- what a take needs of the table: a ready row at the slot
@@ -122,13 +135,15 @@ pub record TakesRow (rows : List Row) (ready : List ℕ) (k : ℕ) : Type 0 wher
 take_grounds : (s : Service) (k : ℕ) → take_reply s ≡ Ok (Some k) → TakeGrounds k s
 take_grounds s k told = grounds Takes s (Take k) (ap take_event told)
 
-pub takes_row : (rows : List Row) (ready : List ℕ) (journal : List StoredEvent) (out steps k : ℕ) → AreKept rows ready journal out steps → take_reply (service rows ready journal) ≡ Ok (Some k) → TakesRow rows ready k
+pub takes_row : (rows : List Row) (ready : List ℕ) (journal : List StoredEvent) (out steps k : ℕ) → AreKept rows ready journal out steps
+    → take_reply (service rows ready journal) ≡ Ok (Some k) → TakesRow rows ready k
 takes_row rows ready journal out steps k kept told =
     let g = take_grounds (service rows ready journal) k told in
     let r = taken_ready k (service rows ready journal) kept.kept.listed g in
     record { first = g.first; row = r.row; here = r.here; free = r.ready }
 
-pub take_kept : (rows : List Row) (ready : List ℕ) (journal : List StoredEvent) (out steps k : ℕ) → AreKept rows ready journal out steps → take_reply (service rows ready journal) ≡ Ok (Some k)
+pub take_kept : (rows : List Row) (ready : List ℕ) (journal : List StoredEvent) (out steps k : ℕ) → AreKept rows ready journal out steps
+    → take_reply (service rows ready journal) ≡ Ok (Some k)
     → AreKept (change_row k taken_row rows) (drop 1 ready) (journal ++ stored.Take k ∷ []) (out + 1) steps
 take_kept rows ready journal out steps k kept told =
     let s = service rows ready journal in
@@ -141,7 +156,8 @@ take_kept rows ready journal out steps k kept told =
       steps_is = kept.steps_is ∙ sym (take_steps k rows);
     }
 
-pub books_out : (rows : List Row) (ready : List ℕ) (journal : List StoredEvent) (out steps k : ℕ) → AreKept rows ready journal out steps → take_reply (service rows ready journal) ≡ Ok (Some k)
+pub books_out : (rows : List Row) (ready : List ℕ) (journal : List StoredEvent) (out steps k : ℕ) → AreKept rows ready journal out steps
+    → take_reply (service rows ready journal) ≡ Ok (Some k)
     → GoesOut (service rows ready journal) (with_event (Take k) (service rows ready journal))
 books_out rows ready journal out steps k kept told =
     let s = service rows ready journal in
@@ -160,7 +176,10 @@ memory_refuses_take t k is = subst (λ (x : Result (Option ℕ) JobFault). Refus
 
 -- a task is sound
 task_sound : (p : Progress) (k : ℕ) → IsReached p → IsSound (GivesBack k p.job p.state.steps)
-task_sound p k h = (omega (arith, h.bounded.steps, h.fits.budget_most), λ i same. subst (λ (x : Job). HasState x p.state.steps) (same_is i p.job same) (record { state = p.state; alone = h.alone }))
+task_sound p k h = (
+  omega (arith, h.bounded.steps, h.fits.budget_most),
+  λ i same. subst (λ (x : Job). HasState x p.state.steps) (same_is i p.job same) (record { state = p.state; alone = h.alone }),
+)
 
 -- the row that a task fits
 pub record FitsRow (rows : List Row) (k : ℕ) (j : Job) (n before : ℕ) : Type 0 where
@@ -178,17 +197,23 @@ fits_at rows k j n before h = fits_some (slice_get rows k) rows k j n before ref
 
 pub fits_given : (before k n : ℕ) (j : Job) (rows : List Row) (o : Option ℕ) → o ≡ Some before
     → MatchOption o (receipt_for k j n (slice_get rows k) ≡ None) (λ steps. Fits j n steps (slice_get rows k)) → FitsRow rows k j n before
-fits_given before k n j rows o is h = fits_at rows k j n before (subst (λ (x : Option ℕ). MatchOption x (receipt_for k j n (slice_get rows k) ≡ None) (λ steps. Fits j n steps (slice_get rows k))) is h)
+fits_given before k n j rows o is h =
+    fits_at rows k j n before
+    (subst (λ (x : Option ℕ). MatchOption x (receipt_for k j n (slice_get rows k) ≡ None) (λ steps. Fits j n steps (slice_get rows k))) is h)
 
 if_true : {A : Type 0} (b : Bool) (x y : A) → b ≡ true → (if b then x else y) ≡ x
 if_true true x y h = refl
 if_true false x y h = absurd cc
 
-pub reply_is : (rows : List Row) (ready : List ℕ) (journal : List StoredEvent) (k : ℕ) (j : Job) (n before : ℕ) (f : FitsRow rows k j n before) → give_back_reply k j n (service rows ready journal) ≡ Some (receipt_of k (returned_row n f.row))
-reply_is rows ready journal k j n before f = ap (receipt_for k j n) f.here ∙ if_true (fits_row j n f.row) (Some (receipt_of k (returned_row n f.row))) None f.fits
+pub reply_is : (rows : List Row) (ready : List ℕ) (journal : List StoredEvent) (k : ℕ) (j : Job) (n before : ℕ)
+    (f : FitsRow rows k j n before) → give_back_reply k j n (service rows ready journal) ≡ Some (receipt_of k (returned_row n f.row))
+reply_is rows ready journal k j n before f = ap (receipt_for k j n) f.here
+    ∙ if_true (fits_row j n f.row) (Some (receipt_of k (returned_row n f.row))) None f.fits
 
-return_grounds : (rows : List Row) (ready : List ℕ) (journal : List StoredEvent) (k : ℕ) (j : Job) (n before : ℕ) → FitsRow rows k j n before → ReturnGrounds k n (service rows ready journal)
-return_grounds rows ready journal k j n before f = grounds (GivesBack k j n) (service rows ready journal) (Return k n) (ap return_event (reply_is rows ready journal k j n before f))
+return_grounds : (rows : List Row) (ready : List ℕ) (journal : List StoredEvent) (k : ℕ) (j : Job) (n before : ℕ)
+    → FitsRow rows k j n before → ReturnGrounds k n (service rows ready journal)
+return_grounds rows ready journal k j n before f =
+    grounds (GivesBack k j n) (service rows ready journal) (Return k n) (ap return_event (reply_is rows ready journal k j n before f))
 
 and_out : (a b c : Bool) → (a && b && c) ≡ true → (a ≡ true) × (b ≡ true)
 and_out true true c h = (refl, refl)
@@ -215,16 +240,19 @@ pub record IsCounted (before out steps : ℕ) : Type 0 where
   pub some_out : 1 ≤ out
   pub few_steps : steps < 2 ^ 64
 
-pub comes_back : (rows : List Row) (ready : List ℕ) (journal : List StoredEvent) (out steps k before n : ℕ) (j : Job) → AreKept rows ready journal out steps → FitsRow rows k j n before → IsCounted before out steps
+pub comes_back : (rows : List Row) (ready : List ℕ) (journal : List StoredEvent) (out steps k before n : ℕ) (j : Job)
+    → AreKept rows ready journal out steps → FitsRow rows k j n before → IsCounted before out steps
 comes_back rows ready journal out steps k before n j kept f = record {
   counted = omega (arith, f.before_is, kept.steps_is, sum-at steps_by rows k f.row f.here);
   some_out = omega (arith, kept.out_is, return_out k n (service rows ready journal) (return_grounds rows ready journal k j n before f));
   few_steps = omega (arith, kept.steps_is, steps_most rows kept.kept.reached, kept.kept.within.jobs);
 }
 
-pub return_kept : (rows : List Row) (ready : List ℕ) (journal : List StoredEvent) (out left steps total k before : ℕ) (p : Progress) → AreKept rows ready journal out steps
+pub return_kept : (rows : List Row) (ready : List ℕ) (journal : List StoredEvent) (out left steps total k before : ℕ) (p : Progress)
+    → AreKept rows ready journal out steps
     → FitsRow rows k p.job p.state.steps before → IsReached p → left + 1 ≡ out → total + before ≡ steps + p.state.steps
-    → AreKept (change_row k (returned_row p.state.steps) rows) (ready ++ slot_if_ready k (slice_get (change_row k (returned_row p.state.steps) rows) k)) (journal ++ stored.Return k p.state.steps ∷ []) left total
+    → AreKept (change_row k (returned_row p.state.steps) rows)
+    (ready ++ slot_if_ready k (slice_get (change_row k (returned_row p.state.steps) rows) k)) (journal ++ stored.Return k p.state.steps ∷ []) left total
 return_kept rows ready journal out left steps total k before p kept f reached less more =
     let s = service rows ready journal in
     let j = p.job in
@@ -253,7 +281,8 @@ get-same k f [] r h = absurd cc
 get-same zero f (q ∷ rows) r h = let same : q ≡ r = cc in ap (λ (x : Row). Some (f x)) same
 get-same (suc k) f (q ∷ rows) r h = get-same k f rows r h
 
-pub here_after : (rows : List Row) (k : ℕ) (j : Job) (n before : ℕ) (f : FitsRow rows k j n before) → slice_get (change_row k (returned_row n) rows) k ≡ Some (returned_row n f.row)
+pub here_after : (rows : List Row) (k : ℕ) (j : Job) (n before : ℕ) (f : FitsRow rows k j n before)
+    → slice_get (change_row k (returned_row n) rows) k ≡ Some (returned_row n f.row)
 here_after rows k j n before f = get-same k (returned_row n) rows f.row f.here
 
 pub receipt_is : (k : ℕ) (x : Receipt) (o : Option Row) (r : Row) → o ≡ Some r → IsReceiptOf k x o → x ≡ receipt_of k r
@@ -267,17 +296,20 @@ refuses o fault is = subst (λ (x : Option JobFault). Refuses x fault) (sym is) 
 pub memory_refuses : (o : Option JobFault) → o ≡ None → Refuses o faults.Memory
 memory_refuses o is = subst (λ (x : Option JobFault). Refuses x faults.Memory) (sym is) refl
 
-pub cancel_fault_is : (rows : List Row) (ready : List ℕ) (journal : List StoredEvent) (out steps : ℕ) (full : Bool) (p : Pass) → AreKept rows ready journal out steps → full ≡ nat_lt most_events (length journal + out + 1)
+pub cancel_fault_is : (rows : List Row) (ready : List ℕ) (journal : List StoredEvent) (out steps : ℕ) (full : Bool) (p : Pass)
+    → AreKept rows ready journal out steps → full ≡ nat_lt most_events (length journal + out + 1)
     → cancel_refusal p rows full ≡ cancel_fault p (service rows ready journal)
 cancel_fault_is rows ready journal out steps full p kept is = ap (cancel_refusal p rows) (is ∙ full_is rows ready journal out steps 1 kept)
 
 cancel_grounds : (s : Service) (p : Pass) → cancel_fault p s ≡ None → CancelGrounds p.slot s
 cancel_grounds s p told = grounds (Cancels p) s (Cancel p.slot) (ap (λ (fault : Option JobFault). event_unless fault (Cancel p.slot)) told)
 
-pub cancels_some : (rows : List Row) (ready : List ℕ) (journal : List StoredEvent) (p : Pass) → cancel_fault p (service rows ready journal) ≡ None → IsSome (slice_get rows p.slot)
+pub cancels_some : (rows : List Row) (ready : List ℕ) (journal : List StoredEvent) (p : Pass) → cancel_fault p (service rows ready journal)
+    ≡ None → IsSome (slice_get rows p.slot)
 cancels_some rows ready journal p told = subst IsSome (sym (cancel_grounds (service rows ready journal) p told).here) refl
 
-pub cancel_kept : (rows : List Row) (ready : List ℕ) (journal : List StoredEvent) (out steps : ℕ) (p : Pass) → AreKept rows ready journal out steps → cancel_fault p (service rows ready journal) ≡ None
+pub cancel_kept : (rows : List Row) (ready : List ℕ) (journal : List StoredEvent) (out steps : ℕ) (p : Pass)
+    → AreKept rows ready journal out steps → cancel_fault p (service rows ready journal) ≡ None
     → AreKept (change_row p.slot cancelled_row rows) (ready_without p.slot ready) (journal ++ stored.Cancel p.slot ∷ []) out steps
 cancel_kept rows ready journal out steps p kept told =
     let s = service rows ready journal in
@@ -291,7 +323,8 @@ cancel_kept rows ready journal out steps p kept told =
 
 -- SUBMIT
 
-pub submit_fault_is : (rows : List Row) (ready : List ℕ) (journal : List StoredEvent) (out steps u : ℕ) (full : Bool) → AreKept rows ready journal out steps → full ≡ nat_lt most_events (length journal + out + 1)
+pub submit_fault_is : (rows : List Row) (ready : List ℕ) (journal : List StoredEvent) (out steps u : ℕ) (full : Bool)
+    → AreKept rows ready journal out steps → full ≡ nat_lt most_events (length journal + out + 1)
     → submit_refusal u rows full ≡ submit_fault u (service rows ready journal)
 submit_fault_is rows ready journal out steps u full kept is = ap (submit_refusal u rows) (is ∙ full_is rows ready journal out steps 1 kept)
 
@@ -300,14 +333,16 @@ unfolding after
 start_state j s h = record { state = s; alone = h }
 
 -- the row of a job at its start is a new row
-pub is_new : (r : Row) (u : ℕ) (j : Job) (s : State) → r.user ≡ u → r.job ≡ j → r.steps ≡ s.steps → r.standing ≡ standing_at j s.steps → start_of j ≡ Some s → r ≡ new_row u j
+pub is_new : (r : Row) (u : ℕ) (j : Job) (s : State) → r.user ≡ u → r.job ≡ j → r.steps ≡ s.steps → r.standing ≡ standing_at j s.steps
+    → start_of j ≡ Some s → r ≡ new_row u j
 is_new r u j s user job steps standing start =
     let none = start_steps j s start in
     let all = steps ∙ none in
     let stands = standing ∙ ap (standing_at j) none in
     λ i. record { user = user i; job = job i; steps = all i; standing = stands i }
 
-pub submit_kept : (rows : List Row) (ready : List ℕ) (journal : List StoredEvent) (out steps u : ℕ) (j : Job) → AreKept rows ready journal out steps → submit_fault u (service rows ready journal) ≡ None → HasState j 0 → JobFits j
+pub submit_kept : (rows : List Row) (ready : List ℕ) (journal : List StoredEvent) (out steps u : ℕ) (j : Job)
+    → AreKept rows ready journal out steps → submit_fault u (service rows ready journal) ≡ None → HasState j 0 → JobFits j
     → AreKept (rows ++ new_row u j ∷ []) (ready ++ slot_if_ready (length rows) (Some (new_row u j))) (journal ++ stored.Submit ∷ []) out steps
 submit_kept rows ready journal out steps u j kept told start fits =
     let s = service rows ready journal in

@@ -38,7 +38,8 @@ pub record TellTheSame (a b : Reply) : Type 0 where
 -- whatever services two replies come from, and for whichever passes: where the rows that are collected are equal, they tell the same
 abbrev pub EqualRowsAreToldAlike : Type 0
 EqualRowsAreToldAlike =
-    (p q : Pass) (s t : Service) (r : Row) (a b : Reply) → collect_reply p s ≡ Ok r → collect_reply q t ≡ Ok r → IsCollected p.job (collect_reply p s) a → IsCollected q.job (collect_reply q t) b → TellTheSame a b
+    (p q : Pass) (s t : Service) (r : Row) (a b : Reply) → collect_reply p s ≡ Ok r → collect_reply q t ≡ Ok r
+    → IsCollected p.job (collect_reply p s) a → IsCollected q.job (collect_reply q t) b → TellTheSame a b
 
 -- TAKE
 

@@ -38,7 +38,8 @@ pub record Concludes (j : Job) (n : ℕ) (c : Conclusion) : Type 0 where
   pub ended : state.ended ≡ Some c.end
   pub report : c.report.items ≡ report_of (record { job = j; state = state })
 
--- a row that is ready or ended holds the state of its job after the row's steps, or its conclusion; the lone run is over there where it is ended, and goes on where it is ready
+-- a row that is ready or ended holds the state of its job after the row's steps, or its conclusion; the lone run is
+-- over there where it is ended, and goes on where it is ready
 abbrev pub HoldsFor : Job → ℕ → Standing → Type 0
 HoldsFor j n (standings.Ready sim) = IsStateOf j n sim × (is_over j n ≡ false)
 HoldsFor j n standings.Out = Unit {0}

@@ -15,7 +15,9 @@ service rows ready journal = record { now = record { rows = rows; ready = ready 
 abbrev pub service_of : Inside → Service
 service_of t = service t.rows.items t.ready.items t.journal.items
 
--- rows, ready list and stored journal belong together: they are a service as sound calls keep it, in which each job is one of an accepted object, and there is a row for each submit; so many rows are out, and so many steps were given back
+-- rows, ready list and stored journal belong together: they are a service as sound calls keep it, in which each job is
+-- one of an accepted object, and there is a row for each submit; so many rows are out, and so many steps were given
+-- back
 pub record AreKept (rows : List Row) (ready : List ℕ) (journal : List StoredEvent) (out : ℕ) (steps : ℕ) : Type 0 where
   pub kept : IsKept (service rows ready journal)
   pub accepted : AllSubmitAccepted (service rows ready journal).journal

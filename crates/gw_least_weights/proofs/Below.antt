@@ -49,7 +49,8 @@ lowered_length [] (u ∷ us) same = absurd (omega (arith, same))
 lowered_length (w ∷ ws) [] same = absurd (omega (arith, same))
 lowered_length (w ∷ ws) (u ∷ us) same = omega (arith, lowered_length ws us (omega (arith, same)))
 
-pub lowered_at : (ws us : List ℕ) (i : ℕ) → length ws ≡ length us → weight_at (lowered ws us) i ≡ cond (nat_lt (weight_at ws i) (weight_at us i)) (weight_at us i - 1) (weight_at us i)
+pub lowered_at : (ws us : List ℕ) (i : ℕ) → length ws ≡ length us → weight_at (lowered ws us) i
+    ≡ cond (nat_lt (weight_at ws i) (weight_at us i)) (weight_at us i - 1) (weight_at us i)
 lowered_at [] [] i same = refl
 lowered_at [] (u ∷ us) i same = absurd (omega (arith, same))
 lowered_at (w ∷ ws) [] i same = absurd (omega (arith, same))
@@ -79,7 +80,8 @@ below_less (suc n) [] [] us same each = omega arith
 below_less (suc n) [] (v ∷ vs) us same each = absurd (omega (arith, same))
 below_less (suc n) (w ∷ ws) [] us same each = absurd (omega (arith, same))
 below_less (suc n) (w ∷ ws) (v ∷ vs) [] same each = omega arith
-below_less (suc n) (w ∷ ws) (v ∷ vs) (u ∷ us) same each = omega (arith, grows w v u (each zero), below_less n ws vs us (omega (arith, same)) (λ i. each (suc i)))
+below_less (suc n) (w ∷ ws) (v ∷ vs) (u ∷ us) same each =
+    omega (arith, grows w v u (each zero), below_less n ws vs us (omega (arith, same)) (λ i. each (suc i)))
 
 -- nor are they where the others are less
 pub below_fewer : (n : ℕ) (ws ts us : List ℕ) → length ts ≡ length us → ((i : ℕ) → weight_at ts i ≤ weight_at us i) → below n ws ts ≤ below n ws us
@@ -88,10 +90,12 @@ below_fewer (suc n) [] ts us same each = omega arith
 below_fewer (suc n) (w ∷ ws) [] [] same each = omega arith
 below_fewer (suc n) (w ∷ ws) [] (u ∷ us) same each = absurd (omega (arith, same))
 below_fewer (suc n) (w ∷ ws) (t ∷ ts) [] same each = absurd (omega (arith, same))
-below_fewer (suc n) (w ∷ ws) (t ∷ ts) (u ∷ us) same each = omega (arith, falls w t u (each zero), below_fewer n ws ts us (omega (arith, same)) (λ i. each (suc i)))
+below_fewer (suc n) (w ∷ ws) (t ∷ ts) (u ∷ us) same each =
+    omega (arith, falls w t u (each zero), below_fewer n ws ts us (omega (arith, same)) (λ i. each (suc i)))
 
 -- where none of those that grow comes to the other, each that was below is still
-pub same_below : (n : ℕ) (ws vs us : List ℕ) → length ws ≡ length vs → ((i : ℕ) → weight_at ws i ≤ weight_at vs i) → below n ws us ≤ below n vs us → (i : ℕ) → i < n → weight_at ws i < weight_at us i → weight_at vs i < weight_at us i
+pub same_below : (n : ℕ) (ws vs us : List ℕ) → length ws ≡ length vs → ((i : ℕ) → weight_at ws i ≤ weight_at vs i) → below n ws us
+    ≤ below n vs us → (i : ℕ) → i < n → weight_at ws i < weight_at us i → weight_at vs i < weight_at us i
 same_below zero ws vs us same each many i within lt = absurd (omega (arith, within))
 same_below (suc n) [] [] us same each many i within lt = lt
 same_below (suc n) [] (v ∷ vs) us same each many i within lt = absurd (omega (arith, same))
@@ -106,10 +110,12 @@ same_below (suc n) (w ∷ ws) (v ∷ vs) (u ∷ us) same each many (suc i) withi
     same_below n ws vs us (omega (arith, same)) (λ i. each (suc i)) fewer i (omega (arith, within)) lt
 
 -- where none is below the other they are the same
-pub none_below : (n : ℕ) (ws us : List ℕ) → length ws ≡ length us → ((i : ℕ) → weight_at ws i ≤ weight_at us i) → below n ws us ≡ zero → (i : ℕ) → i < n → weight_at ws i ≡ weight_at us i
+pub none_below : (n : ℕ) (ws us : List ℕ) → length ws ≡ length us → ((i : ℕ) → weight_at ws i ≤ weight_at us i) → below n ws us ≡ zero
+    → (i : ℕ) → i < n → weight_at ws i ≡ weight_at us i
 none_below zero ws us same each none i within = absurd (omega (arith, within))
 none_below (suc n) [] [] same each none i within = refl
 none_below (suc n) [] (u ∷ us) same each none i within = absurd (omega (arith, same))
 none_below (suc n) (w ∷ ws) [] same each none i within = absurd (omega (arith, same))
 none_below (suc n) (w ∷ ws) (u ∷ us) same each none zero within = reaches w u (each zero) (omega (arith, none))
-none_below (suc n) (w ∷ ws) (u ∷ us) same each none (suc i) within = none_below n ws us (omega (arith, same)) (λ i. each (suc i)) (omega (arith, none)) i (omega (arith, within))
+none_below (suc n) (w ∷ ws) (u ∷ us) same each none (suc i) within =
+    none_below n ws us (omega (arith, same)) (λ i. each (suc i)) (omega (arith, none)) i (omega (arith, within))

@@ -97,7 +97,8 @@ module _ (rules : List Rule) (counted count : ℕ) (order : AreInOrder rules cou
         ]
 
     -- a gathered weight is still no more than one that it gathers
-    gathered_still : (place : ℕ) → weight_at x place ≡ weight_at v place → (weight_at v place ≤ 1) ⊎ IsGathered rules v place → (weight_at x place ≤ 1) ⊎ IsGathered rules x place
+    gathered_still : (place : ℕ) → weight_at x place ≡ weight_at v place → (weight_at v place ≤ 1) ⊎ IsGathered rules v place
+        → (weight_at x place ≤ 1) ⊎ IsGathered rules x place
     gathered_still place same h = elim h [
       | inl few ↦ inl (omega (arith, same, few))
       | inr g ↦ inr (record { rule = g.rule; there = g.there; at = g.at; most = omega (arith, same, g.most, one.grown.each g.rule.first.first.place) })
@@ -132,7 +133,8 @@ module _ (rules : List Rule) (counted count : ℕ) (order : AreInOrder rules cou
     still = λ h. refl;
   }
 
-  pub goes_on : (w v x : List ℕ) (before raised : Bool) (n : ℕ) (r : Rule) → IsOn rules counted w v before n → n < length rules → ((d : Rule) → get_or rules n d ≡ r) → IsRaisedFor r v x → (raised ≡ false → x ≡ v) → IsOn rules counted w x (before || raised) (n + 1)
+  pub goes_on : (w v x : List ℕ) (before raised : Bool) (n : ℕ) (r : Rule) → IsOn rules counted w v before n → n < length rules
+      → ((d : Rule) → get_or rules n d ≡ r) → IsRaisedFor r v x → (raised ≡ false → x ≡ v) → IsOn rules counted w x (before || raised) (n + 1)
   goes_on w v x before raised n r on within is one still = record {
     done = raised_both rules w v x on.done (raised_once rules v x n r within is one);
     first = asked_more (λ r. r.first) rules w v x n r on.first on.done.grown one.grown is one.first;

@@ -32,13 +32,15 @@ term_lowers (suc m) a b c d is first second stays =
           inr (ap (λ n. suc m * n) same)
     ]
 
-module _ (gain p1 p2 q1 q2 s1 s2 off v u l : ℕ) (is : l ≡ cond (nat_lt v u) (u - 1) u) (keeps : gain + q1 + q2 - off ≤ u) (less : p1 ≤ q1) (fewer : p2 ≤ q2) where
+module _ (gain p1 p2 q1 q2 s1 s2 off v u l : ℕ) (is : l ≡ cond (nat_lt v u) (u - 1) u) (keeps : gain + q1 + q2 - off ≤ u) (less : p1 ≤ q1)
+    (fewer : p2 ≤ q2) where
   -- a rule is kept where its weight stays
   pub kept_beside : u ≤ v → gain + p1 + p2 - off ≤ l
   kept_beside le = omega (arith, kept_at v u l is le, keeps, less, fewer)
 
   -- and where it is lowered: a term gets less too, or the weight has come to what the rule asks in the certificate, and isn't below it
-  pub kept_lower : v < u → (suc p1 ≤ q1) ⊎ (s1 ≡ q1) → (suc p2 ≤ q2) ⊎ (s2 ≡ q2) → min (gain + s1 + s2 - off) greatest_weight ≤ v → u ≤ greatest_weight → gain + p1 + p2 - off ≤ l
+  pub kept_lower : v < u → (suc p1 ≤ q1) ⊎ (s1 ≡ q1) → (suc p2 ≤ q2) ⊎ (s2 ≡ q2) → min (gain + s1 + s2 - off) greatest_weight ≤ v → u
+      ≤ greatest_weight → gain + p1 + p2 - off ≤ l
   kept_lower lt first second asked most =
       let down : suc l ≡ u = lowered_to v u l is lt in
       elim first [

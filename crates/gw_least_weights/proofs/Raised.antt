@@ -42,7 +42,8 @@ raised_both rules w v x first second = record {
   range = λ h. second.range (first.range h);
 }
 
-pub raised_once : (rules : List Rule) (w x : List ℕ) (n : ℕ) (r : Rule) → n < length rules → ((d : Rule) → get_or rules n d ≡ r) → IsRaisedFor r w x → IsRaised rules w x
+pub raised_once : (rules : List Rule) (w x : List ℕ) (n : ℕ) (r : Rule) → n < length rules → ((d : Rule) → get_or rules n d ≡ r)
+    → IsRaisedFor r w x → IsRaised rules w x
 raised_once rules w x n r within is one = record {
   grown = one.grown;
   below = λ u keeps h. one.below u (subst (Keeps u) (is r) (keeps n r within)) h;
@@ -56,10 +57,12 @@ Asked part rules w v n = (k : ℕ) (d : Rule) → k < n → min (of_sum w (part 
 pub none_asked : (part : Rule → Sum) (rules : List Rule) (w : List ℕ) → Asked part rules w w 0
 none_asked part rules w k d h = absurd (omega (arith, h))
 
-pub asked_more : (part : Rule → Sum) (rules : List Rule) (w v x : List ℕ) (n : ℕ) (r : Rule) → Asked part rules w v n → EachAtMost w v → EachAtMost v x → ((d : Rule) → get_or rules n d ≡ r) → min (of_sum v (part r)) greatest_weight ≤ weight_at x r.at → Asked part rules w x (n + 1)
+pub asked_more : (part : Rule → Sum) (rules : List Rule) (w v x : List ℕ) (n : ℕ) (r : Rule) → Asked part rules w v n → EachAtMost w v
+    → EachAtMost v x → ((d : Rule) → get_or rules n d ≡ r) → min (of_sum v (part r)) greatest_weight ≤ weight_at x r.at → Asked part rules w x (n + 1)
 asked_more part rules w v x n r asked before grown is more k d h =
     elim (eq-or-lt_of_le {n = k} {m = n} (omega (arith, h))) [
-      | inl e ↦ subst (λ (s : Rule). min (of_sum w (part s)) greatest_weight ≤ weight_at x s.at) (sym (ap (λ i. get_or rules i d) e ∙ is d)) (le_trans (at_most_min (of_sum w (part r)) (of_sum v (part r)) (of_sum_grows w v (part r) before)) more)
+      | inl e ↦ subst (λ (s : Rule). min (of_sum w (part s)) greatest_weight ≤ weight_at x s.at)
+          (sym (ap (λ i. get_or rules i d) e ∙ is d)) (le_trans (at_most_min (of_sum w (part r)) (of_sum v (part r)) (of_sum_grows w v (part r) before)) more)
       | inr lt ↦ le_trans (asked k d lt) (grown.each _)
     ]
 

@@ -1,5 +1,6 @@
 -- How near rounds have come to a certificate.
-use Rattle.std.proofs.Common.{◌≡◌, ℕ, zero, suc, ◌+◌, ◌-◌, ◌≤◌, ◌<◌, ◌⊎◌, List, length, min, ap, subst, sym, ◌∙◌, arith, cond, nat_lt, inl, inr, get_or, le_trans, replicate}
+use Rattle.std.proofs.Common.{◌≡◌, ℕ, zero, suc, ◌+◌, ◌-◌, ◌≤◌, ◌<◌, ◌⊎◌, List, length, min, ap, subst, sym, ◌∙◌, arith, cond, nat_lt, inl, inr}
+use Rattle.std.proofs.Common.{get_or, le_trans, replicate}
 use Rattle.std.proofs.lemmas.List.{get_or_past, get_or-replicate}
 use Rattle.std.proofs.Math.Nat.{min-eq_left}
 use Rattle.std.proofs.lemmas.Bool.{cases_lt}
@@ -64,7 +65,8 @@ module _ (rules : List Rule) (counted count : ℕ) where
   module _ (order : AreInOrder rules counted count) where
     -- ONE ROUND, from w to v
 
-    module _ (w v : List ℕ) (round : IsRound rules counted w v) (start : InRange w) (range : InRange v) (kept : KeepsGathering rules counted w) (gathered : AreGathered rules counted v) where
+    module _ (w v : List ℕ) (round : IsRound rules counted w v) (start : InRange w) (range : InRange v)
+        (kept : KeepsGathering rules counted w) (gathered : AreGathered rules counted v) where
       grown : EachAtMost w v
       grown = round.raised.grown
 
@@ -76,7 +78,11 @@ module _ (rules : List Rule) (counted count : ℕ) where
         less_at i = lowered_at v u i up.many
 
         pub above_less : EachAtMost v less
-        above_less = record { many = up.many ∙ sym (lowered_length v u up.many); each = λ i. no_less (weight_at v i) (weight_at u i) (weight_at less i) (less_at i) (up.each i) }
+        above_less = record {
+          many = up.many ∙ sym (lowered_length v u up.many);
+          each =
+              λ i. no_less (weight_at v i) (weight_at u i) (weight_at less i) (less_at i) (up.each i);
+        }
 
         pub less_most : EachAtMost less u
         less_most = record { many = lowered_length v u up.many; each = λ i. no_more (weight_at v i) (weight_at u i) (weight_at less i) (less_at i) }
@@ -94,11 +100,13 @@ module _ (rules : List Rule) (counted count : ℕ) where
             let k = g.there.0 in
             let far_rule : counted ≤ g.rule.at = subst (λ n. counted ≤ n) (sym g.at) far in
             let here : get_or rules k g.rule ≡ g.rule = g.there.2 in
-            let gathers : Gathers counted g.rule = subst (Gathers counted) here (order.gathers k g.rule g.there.1 (subst (λ (r : Rule). counted ≤ r.at) (sym here) far_rule)) in
+            let gathers : Gathers counted g.rule =
+            subst (Gathers counted) here (order.gathers k g.rule g.there.1 (subst (λ (r : Rule). counted ≤ r.at) (sym here) far_rule)) in
             let kept_now : Keeps w g.rule = subst (Keeps w) here (kept k g.rule g.there.1 (subst (λ (r : Rule). counted ≤ r.at) (sym here) far_rule)) in
             let place = gathered_place g.rule in
             let before : weight_at w place ≤ weight_at w i = subst (λ n. weight_at w place ≤ weight_at w n) g.at (is_kept counted g.rule gathers w kept_now) in
-            let above : weight_at u place ≤ weight_at u i = subst (λ n. weight_at u place ≤ weight_at u n) g.at (is_kept counted g.rule gathers u (subst (Keeps u) here (c.keeps k g.rule g.there.1))) in
+            let above : weight_at u place ≤ weight_at u i =
+            subst (λ n. weight_at u place ≤ weight_at u n) g.at (is_kept counted g.rule gathers u (subst (Keeps u) here (c.keeps k g.rule g.there.1))) in
             elim (cases_lt (weight_at w place) (weight_at u place)) [
               | inl risen ↦ omega (arith, counted_stays place gathers.inside risen, g.most, le, above)
               | inr there ↦ omega (arith, there, before, lt, up.each place, g.most, le)
@@ -125,15 +133,19 @@ module _ (rules : List Rule) (counted count : ℕ) where
             ]
 
         lowers : (t : Term) → (suc (of_term less t) ≤ of_term u t) ⊎ (of_term w t ≡ of_term u t)
-        lowers t = term_lowers t.times (weight_at w t.place) (weight_at v t.place) (weight_at u t.place) (weight_at less t.place) (less_at t.place) (from_start.each t.place) (up.each t.place) (stays t.place)
+        lowers t = term_lowers t.times (weight_at w t.place) (weight_at v t.place) (weight_at u t.place) (weight_at less t.place)
+            (less_at t.place) (from_start.each t.place) (up.each t.place) (stays t.place)
 
         keeps_sum : (s : Sum) (at : ℕ) → of_sum u s ≤ weight_at u at → min (of_sum w s) greatest_weight ≤ weight_at v at → of_sum less s ≤ weight_at less at
         keeps_sum s at keeps asked =
             let first = of_term_grows less u s.first less_most in
             let second = of_term_grows less u s.second less_most in
             elim (cases_lt (weight_at v at) (weight_at u at)) [
-              | inl lt ↦ kept_lower s.own (of_term less s.first) (of_term less s.second) (of_term u s.first) (of_term u s.second) (of_term w s.first) (of_term w s.second) s.less (weight_at v at) (weight_at u at) (weight_at less at) (less_at at) keeps first second lt (lowers s.first) (lowers s.second) asked (at_most_greatest u c.range at)
-              | inr le ↦ kept_beside s.own (of_term less s.first) (of_term less s.second) (of_term u s.first) (of_term u s.second) (of_term w s.first) (of_term w s.second) s.less (weight_at v at) (weight_at u at) (weight_at less at) (less_at at) keeps first second le
+              | inl lt ↦ kept_lower s.own (of_term less s.first) (of_term less s.second) (of_term u s.first) (of_term u s.second)
+                  (of_term w s.first) (of_term w s.second) s.less (weight_at v at) (weight_at u at) (weight_at less at) (less_at at) keeps
+                  first second lt (lowers s.first) (lowers s.second) asked (at_most_greatest u c.range at)
+              | inr le ↦ kept_beside s.own (of_term less s.first) (of_term less s.second) (of_term u s.first) (of_term u s.second)
+                  (of_term w s.first) (of_term w s.second) s.less (weight_at v at) (weight_at u at) (weight_at less at) (less_at at) keeps first second le
             ]
 
         pub lower_certificate : IsCertificate rules count less
@@ -161,13 +173,27 @@ module _ (rules : List Rule) (counted count : ℕ) where
                 let most = less_most u c up stay in
                 let r = nearer fuel (lowered v u) down (lower_certificate u c up stay) (above_less u c up stay) in
                 let fewer = below_fewer counted w (lowered v u) u most.many most.each in
-                record { near = r.near; certificate = r.certificate; above = r.above; most = at_most_both r.near (lowered v u) u r.most most; left = omega (arith, r.left, fewer) }
+                record {
+                  near = r.near;
+                  certificate = r.certificate;
+                  above = r.above;
+                  most =
+                      at_most_both r.near (lowered v u) u r.most most;
+                  left = omega (arith, r.left, fewer);
+                }
           ]
 
       pub comes_nearer : (n : ℕ) (u : List ℕ) → Reached (n + 1) w u → Reached n v u
       comes_nearer n u r =
           let s = nearer (suc (total r.near)) r.near (omega arith) r.certificate (round.raised.below r.near r.certificate.keeps r.above) in
-          record { near = s.near; certificate = s.certificate; above = s.above; most = at_most_both s.near r.near u s.most r.most; left = omega (arith, s.left, r.left) }
+          record {
+            near = s.near;
+            certificate = s.certificate;
+            above = s.above;
+            most = at_most_both s.near r.near u s.most r.most;
+            left =
+                omega (arith, s.left, r.left);
+          }
 
     -- ROUNDS
 
@@ -188,7 +214,8 @@ module _ (rules : List Rule) (counted count : ℕ) where
     all_reached w near u c =
         let r = near.reached u c in
         let same = none_below counted w r.near r.above.many r.above.each (omega (arith, r.left)) in
-        let sum_kept : (s : Sum) (at : ℕ) → at < counted → of_sum r.near s ≤ weight_at r.near at → of_sum w s ≤ weight_at w at = λ s at lt keeps. omega (arith, of_sum_grows w r.near s r.above, keeps, same at lt) in (
+        let sum_kept : (s : Sum) (at : ℕ) → at < counted → of_sum r.near s ≤ weight_at r.near at → of_sum w s ≤ weight_at w at =
+        λ s at lt keeps. omega (arith, of_sum_grows w r.near s r.above, keeps, same at lt) in (
           record {
             many = near.many;
             range = near.range;
@@ -205,11 +232,13 @@ module _ (rules : List Rule) (counted count : ℕ) where
   -- WHERE NOTHING IS RAISED
 
   -- weights that are at most those of each certificate, and in which a round raises nothing
-  pub still_least : (w v : List ℕ) → length w ≡ count → InRange w → ((u : List ℕ) → IsCertificate rules count u → EachAtMost w u) → IsRound rules counted w v → v ≡ w → IsLeast rules count v
+  pub still_least : (w v : List ℕ) → length w ≡ count → InRange w → ((u : List ℕ) → IsCertificate rules count u → EachAtMost w u)
+      → IsRound rules counted w v → v ≡ w → IsLeast rules count v
   still_least w v many start under round still u c =
       let up = round.raised.below u c.keeps (under u c) in
       let same : w ≡ v = sym still in
-      let kept : (s : Sum) (at : ℕ) → of_sum u s ≤ weight_at u at → min (of_sum w s) greatest_weight ≤ weight_at v at → of_sum v s ≤ weight_at v at = λ s at keeps asked.
+      let kept : (s : Sum) (at : ℕ) → of_sum u s ≤ weight_at u at → min (of_sum w s) greatest_weight ≤ weight_at v at → of_sum v s
+      ≤ weight_at v at = λ s at keeps asked.
       let within_greatest : of_sum v s ≤ greatest_weight = omega (arith, of_sum_grows v u s up, keeps, at_most_greatest u c.range at) in
       let asks : min (of_sum v s) greatest_weight ≤ weight_at v at = subst (λ (x : List ℕ). min (of_sum x s) greatest_weight ≤ weight_at v at) same asked in
       (rw min-eq_left at asks)
@@ -235,7 +264,8 @@ module _ (rules : List Rule) (counted count : ℕ) where
     range = near.range;
     kept = near.kept;
     gathered = near.gathered;
-    reached = λ u c. let r = near.reached u c in record { near = r.near; certificate = r.certificate; above = r.above; most = r.most; left = omega (arith, r.left, few) };
+    reached = λ u c. let r = near.reached u c in
+        record { near = r.near; certificate = r.certificate; above = r.above; most = r.most; left = omega (arith, r.left, few) };
   }
 
   -- WHERE WEIGHTS ARE RAISED IN ANY ORDER

@@ -13,7 +13,8 @@ module _ (rules sorted : List Rule) (moved : IsPermutation rules sorted) where
     stand_behind : StandBehind sorted counted
     stand_behind i j d first second far is =
         let gathering = get_or sorted j d in
-        let behind : ComesBehind rules gathering = All-permutation (λ (r : Rule). counted ≤ r.at → ComesBehind rules r) rules sorted moved system.behind j d second far in
+        let behind : ComesBehind rules gathering =
+        All-permutation (λ (r : Rule). counted ≤ r.at → ComesBehind rules r) rules sorted moved system.behind j d second far in
         let less = All-permutation (λ (r : Rule). r.at ≡ gathering.first.first.place → r.turn < gathering.turn) rules sorted moved behind i d first is in
         elim (cases_lt i j) [
           | inl lt ↦ lt
@@ -30,5 +31,12 @@ module _ (rules sorted : List Rule) (moved : IsPermutation rules sorted) where
   pub still_least : (count : ℕ) (w : List ℕ) → IsLeast sorted count w → IsLeast rules count w
   still_least count w least u c =
       let there : IsCertificate sorted count u = record { many = c.many; range = c.range; keeps = All-permutation (Keeps u) rules sorted moved c.keeps } in
-      let both = least u there in
-      (record { many = both.0.many; range = both.0.range; keeps = All-permutation (Keeps w) sorted rules (IsPermutation-sym rules sorted moved) both.0.keeps }, both.1)
+      let both = least u there in (
+        record {
+          many = both.0.many;
+          range = both.0.range;
+          keeps =
+              All-permutation (Keeps w) sorted rules (IsPermutation-sym rules sorted moved) both.0.keeps;
+        },
+        both.1,
+      )

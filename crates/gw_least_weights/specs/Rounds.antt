@@ -5,7 +5,8 @@ use Rattle.gw_least_weights.specs.declared.rules.Rule.{Rule}
 use Rattle.gw_least_weights.specs.Rules.{weight_at, of_sum, need_of, Keeps}
 use Rattle.gw_least_weights.specs.Least.{EachAtMost, InRange, IsCertificate, Gathers}
 
--- what raising for one rule makes of weights: each grows, at the rule's place to what it asks for or to the greatest weight, and to no more than weights have that keep the rule
+-- what raising for one rule makes of weights: each grows, at the rule's place to what it asks for or to the greatest
+-- weight, and to no more than weights have that keep the rule
 pub record IsRaisedFor (r : Rule) (w v : List ℕ) : Type 0 where
   pub grown : EachAtMost w v
   pub first : min (of_sum w r.first) greatest_weight ≤ weight_at v r.at
@@ -50,7 +51,8 @@ pub record IsRound (rules : List Rule) (counted : ℕ) (w v : List ℕ) : Type 0
 
 -- rules stand behind those at the place that they gather
 abbrev pub StandBehind : List Rule → ℕ → Type 0
-StandBehind rules counted = (i j : ℕ) (d : Rule) → i < length rules → j < length rules → counted ≤ (slice_index_or rules j d).at → (slice_index_or rules i d).at ≡ (slice_index_or rules j d).first.first.place → i < j
+StandBehind rules counted = (i j : ℕ) (d : Rule) → i < length rules → j < length rules → counted ≤ (slice_index_or rules j d).at
+    → (slice_index_or rules i d).at ≡ (slice_index_or rules j d).first.first.place → i < j
 
 -- rules of so many places, in the order of a round
 pub record AreInOrder (rules : List Rule) (counted count : ℕ) : Type 0 where

@@ -44,7 +44,8 @@ joined some more old middle new before after = record {
 }
 
 -- those of one number more
-pub one_more : (lines : ℕ → List Opening) (n : ℕ) (old middle new : List ℕ) → AddsLines (openings_below lines n) old middle → AddsLines (lines n) middle new → AddsLines (openings_below lines (n + 1)) old new
+pub one_more : (lines : ℕ → List Opening) (n : ℕ) (old middle new : List ℕ) → AddsLines (openings_below lines n) old middle
+    → AddsLines (lines n) middle new → AddsLines (openings_below lines (n + 1)) old new
 one_more lines n old middle new before this =
     subst (λ k. AddsLines (openings_below lines k) old new) (suc-eq-add-one n) (joined (openings_below lines n) (lines n) old middle new before this)
 

@@ -27,7 +27,8 @@ use Rattle.gw_step.proofs.Lists.{all_placed, map-behind}
 use Rattle.gw_step.proofs.Residence.{resides-linked, resides-unlinked}
 use Rattle.gw_machine.specs.View.{state_of, lists_of, handle_number, member_number}
 use Rattle.gw_machine.specs.Coherence.{Linked, IsRanked, CanRest, Carries, Every}
-use Rattle.gw_machine.proofs.Handles.{active_carried, members_carried, events_carried, assemblies_carried, handles_carried, every, current_in, carries-set, carries-chain, carries-then, all_appended}
+use Rattle.gw_machine.proofs.Handles.{active_carried, members_carried, events_carried, assemblies_carried, handles_carried, every, current_in}
+use Rattle.gw_machine.proofs.Handles.{carries-set, carries-chain, carries-then, all_appended}
 use Rattle.gw_machine.proofs.Changes.{user_chain-at}
 use Rattle.gw_machine.proofs.Due.{agree}
 use Rattle.gw_machine.proofs.Waiters.{lists-put, all_changed, as_many}
@@ -40,8 +41,10 @@ abbrev pub with_others : Configuration → Option Tx → Population → Chain Me
 with_others m active q cs us = record m { active = active; transactions = q; last = q.last; current_events = cs; chains = us }
 
 -- where each handle of those is held, and the others are carried
-linked-others : (m : Configuration) (active : Option Tx) (q : Population) (cs : Chain Member) (us : chain_lists.Linked) → Linked m → Carries Every m.transactions q → IsSound q → IfSome active (Holds q) → AllByRecursion (IsRanked q) cs.items
-    → ((c : ℕ) → c < length m.entities.facilities.values → AllByRecursion (Holds q) (at [] us.lists c)) → length us.lists ≡ length m.chains.lists → ResidesOnce (state_of (with_others m active q cs us)) → Linked (with_others m active q cs us)
+linked-others : (m : Configuration) (active : Option Tx) (q : Population) (cs : Chain Member) (us : chain_lists.Linked) → Linked m
+    → Carries Every m.transactions q → IsSound q → IfSome active (Holds q) → AllByRecursion (IsRanked q) cs.items
+    → ((c : ℕ) → c < length m.entities.facilities.values → AllByRecursion (Holds q) (at [] us.lists c)) → length us.lists
+    ≡ length m.chains.lists → ResidesOnce (state_of (with_others m active q cs us)) → Linked (with_others m active q cs us)
 linked-others m active q cs us l c sound is_active ranked held as_many_chains resides =
     let p = m.transactions in
     let carried = λ (xs : List Member). members_carried Every p q c xs (every member_number xs) in
@@ -99,16 +102,21 @@ all-joined P Fifo tx xs p h = all_appended P xs tx h p
 all-joined P Lifo tx xs p h = (p, h)
 
 -- the active transaction joins a user chain
-module _ (m : Configuration) (tx : Tx) (link : Link) (order : LinkOrder) (is : link.order ≡ order) (l : Linked m) (r : CanRest m tx) (there : link.chain < length m.entities.facilities.values)
+module _ (m : Configuration) (tx : Tx) (link : Link) (order : LinkOrder) (is : link.order ≡ order) (l : Linked m) (r : CanRest m tx)
+    (there : link.chain < length m.entities.facilities.values)
     (q : Population) (ts : q.txs ≡ put_chain tx.number (Some link.chain) m.transactions.txs) (kept : KeepsRest m.transactions q)
     (us : chain_lists.Linked) (changes : us.lists ≡ changed link.chain (joined_at order tx) m.chains.lists) where
   state-joins : state_of (with_others m None q m.current_events us) ≡ joins_chain tx.number link (state_of m)
   state-joins =
-      ap (λ (xs : List (Option LiveTransaction)). record (state_of m) { transactions = xs; lists = record (lists_of m) { active = None; user_chains = map (map handle_number) us.lists } }) ts
-      ∙ ap (λ (ns : List (List ℕ)). record (state_of m) { transactions = put_chain tx.number (Some link.chain) m.transactions.txs; lists = record (lists_of m) { active = None; user_chains = ns } })
+      ap (λ (xs : List (Option LiveTransaction)). record (state_of m)
+      { transactions = xs; lists = record (lists_of m) { active = None; user_chains = map (map handle_number) us.lists } }) ts
+      ∙ ap (λ (ns : List (List ℕ)). record (state_of m)
+      { transactions = put_chain tx.number (Some link.chain) m.transactions.txs; lists = record (lists_of m) { active = None; user_chains = ns } })
       (lists-put handle_number m.chains.lists us.lists link.chain (joined_at order tx) changes
       ∙ ap (put [] (map (map handle_number) m.chains.lists) link.chain)
-      (numbers-joined order tx (at [] m.chains.lists link.chain) ∙ ap (λ o. link_in o tx.number (map handle_number (at [] m.chains.lists link.chain))) (sym is) ∙ ap (link_in link.order tx.number) (sym (user_chain-at m link.chain))))
+      (numbers-joined order tx (at [] m.chains.lists link.chain)
+      ∙ ap (λ o. link_in o tx.number (map handle_number (at [] m.chains.lists link.chain))) (sym is)
+      ∙ ap (link_in link.order tx.number) (sym (user_chain-at m link.chain))))
 
   pub joins : (state_of (with_others m None q m.current_events us) ≡ joins_chain tx.number link (state_of m)) × (q.last ≡ m.transactions.last)
   joins = (state-joins, kept.last)
@@ -118,9 +126,11 @@ module _ (m : Configuration) (tx : Tx) (link : Link) (order : LinkOrder) (is : l
       let p = m.transactions in
       let c = carries-chain p q tx.number (Some link.chain) ts kept.places kept.last in
       let carried = λ (xs : List Tx). handles_carried Every p q c xs (every handle_number xs) in
-      linked-others m None q m.current_events us l c kept.sound tt (members_carried Every p q c m.current_events.items (every member_number m.current_events.items) l.current_events)
+      linked-others m None q m.current_events us l c kept.sound tt
+      (members_carried Every p q c m.current_events.items (every member_number m.current_events.items) l.current_events)
       (λ k below. all_changed (Holds q) m.chains.lists us.lists link.chain (joined_at order tx) changes
-      (all-joined (Holds q) order tx (at [] m.chains.lists link.chain) (c.held tx tt r.held) (carried (at [] m.chains.lists link.chain) (l.user_chains link.chain there)))
+      (all-joined (Holds q) order tx (at [] m.chains.lists link.chain) (c.held tx tt r.held)
+      (carried (at [] m.chains.lists link.chain) (l.user_chains link.chain there)))
       k (carried (at [] m.chains.lists k) (l.user_chains k below)))
       (as_many m.chains.lists us.lists link.chain (joined_at order tx) (rw l.chained there) changes)
       (subst ResidesOnce (sym state-joins) (resides-linked tx.number link (state_of m) (ap (option_map (λ (x : Tx). x.number)) r.active) l.resides))
@@ -174,8 +184,10 @@ module _ (m : Configuration) (l : Linked m) (c target : ℕ) (there : c < length
           let u = bearer_at m.transactions.txs tx.number t found in
           subst (λ (a : Transaction). a.current ≤ 4096) u.2 (current_in m.transactions.txs tx.number u.0 l.blocks u.1)
 
-      module _ (p q : Population) (set : p.txs ≡ put_attributes tx.number (record t { next = target }) m.transactions.txs) (places : p.places ≡ m.transactions.places)
-          (ts : q.txs ≡ put_chain tx.number None p.txs) (ps : q.places ≡ p.places) (pl : p.last ≡ m.transactions.last) (ls : q.last ≡ p.last) (sound : IsSound q)
+      module _ (p q : Population) (set : p.txs ≡ put_attributes tx.number (record t { next = target }) m.transactions.txs)
+          (places : p.places ≡ m.transactions.places)
+          (ts : q.txs ≡ put_chain tx.number None p.txs) (ps : q.places ≡ p.places) (pl : p.last ≡ m.transactions.last)
+          (ls : q.last ≡ p.last) (sound : IsSound q)
           (cs : Chain Member) (joined : cs.items ≡ behind (λ (x : Member). x.priority) (record { tx = tx; priority = t.priority }) m.current_events.items)
           (us : chain_lists.Linked) (changes : us.lists ≡ changed c rest m.chains.lists) where
         abbrev leaver : Member
@@ -186,32 +198,44 @@ module _ (m : Configuration) (l : Linked m) (c target : ℕ) (there : c < length
 
         state-leaves : state_of (with_others m m.active q cs us) ≡ leaves_chain c target tx.number t (state_of m)
         state-leaves =
-            ap (λ (xs : List (Option LiveTransaction)). record (state_of m) { transactions = xs; lists = record (lists_of m) { current_events = map member_number cs.items; user_chains = map (map handle_number) us.lists } })
+            ap (λ (xs : List (Option LiveTransaction)). record (state_of m) {
+              transactions = xs;
+              lists =
+                  record (lists_of m) { current_events = map member_number cs.items; user_chains = map (map handle_number) us.lists };
+            })
             (ts ∙ ap (put_chain tx.number None) set)
-            ∙ ap (λ (ns : List ℕ). record (leaves_chain c target tx.number t (state_of m)) { lists = record (lists_of m) { current_events = ns; user_chains = map (map handle_number) us.lists } })
-            (ap (map member_number) joined ∙ map-behind member_number (λ (x : Member). x.priority) (priority_of m.transactions.txs) leaver m.current_events.items (sym rank) (agree m.transactions m.current_events.items l.current_events))
-            ∙ ap (λ (ns : List (List ℕ)). record (leaves_chain c target tx.number t (state_of m)) { lists = record (leaves_chain c target tx.number t (state_of m)).lists { user_chains = ns } })
+            ∙ ap (λ (ns : List ℕ). record (leaves_chain c target tx.number t (state_of m))
+            { lists = record (lists_of m) { current_events = ns; user_chains = map (map handle_number) us.lists } })
+            (ap (map member_number) joined
+            ∙ map-behind member_number (λ (x : Member). x.priority) (priority_of m.transactions.txs) leaver m.current_events.items
+            (sym rank) (agree m.transactions m.current_events.items l.current_events))
+            ∙ ap (λ (ns : List (List ℕ)). record (leaves_chain c target tx.number t (state_of m))
+            { lists = record (leaves_chain c target tx.number t (state_of m)).lists { user_chains = ns } })
             (lists-put handle_number m.chains.lists us.lists c rest changes
             ∙ ap (put [] (map (map handle_number) m.chains.lists) c) (numbers-rest (at [] m.chains.lists c) ∙ ap rest (sym (user_chain-at m c))))
 
         pub state-unlinks : state_of (with_others m m.active q cs us) ≡ first_unlinked c target (user_chain c (state_of m)) (state_of m)
         state-unlinks =
             state-leaves
-            ∙ sym (ap (λ ns. first_unlinked c target ns (state_of m)) first-number ∙ ap (λ o. option_map_or (λ u. leaves_chain c target tx.number u (state_of m)) o (state_of m)) found)
+            ∙ sym (ap (λ ns. first_unlinked c target ns (state_of m)) first-number
+            ∙ ap (λ o. option_map_or (λ u. leaves_chain c target tx.number u (state_of m)) o (state_of m)) found)
 
         pub linked-unlinks : Linked (with_others m m.active q cs us)
         linked-unlinks =
             let old = m.transactions in
-            let k = carries-then old p q (carries-set old p tx.number (record t { next = target }) set places first-block rank pl) (carries-chain p q tx.number None ts ps ls) in
+            let k = carries-then old p q (carries-set old p tx.number (record t { next = target }) set places first-block rank pl)
+            (carries-chain p q tx.number None ts ps ls) in
             let carried = λ (xs : List Tx). handles_carried Every old q k xs (every handle_number xs) in
             let members = members_carried Every old q k m.current_events.items (every member_number m.current_events.items) l.current_events in
             linked-others m m.active q cs us l k sound (active_carried old q k m.active l.active)
-            (rw joined (all_placed (IsRanked q) (λ (y : Member). int_le t.priority y.priority) leaver m.current_events.items (record { held = k.held tx tt first-held; rank = k.rank tx tt first-held ∙ rank }) members))
+            (rw joined (all_placed (IsRanked q) (λ (y : Member). int_le t.priority y.priority) leaver m.current_events.items
+            (record { held = k.held tx tt first-held; rank = k.rank tx tt first-held ∙ rank }) members))
             (λ j below. all_changed (Holds q) m.chains.lists us.lists c rest changes
             (all-rest (Holds q) (at [] m.chains.lists c) (carried (at [] m.chains.lists c) (l.user_chains c there)))
             j (carried (at [] m.chains.lists j) (l.user_chains j below)))
             (as_many m.chains.lists us.lists c rest (rw l.chained there) changes)
-            (subst ResidesOnce (sym state-leaves) (resides-unlinked c target tx.number t (map handle_number (rest (at [] m.chains.lists c))) (state_of m) first-number l.resides))
+            (subst ResidesOnce (sym state-leaves)
+            (resides-unlinked c target tx.number t (map handle_number (rest (at [] m.chains.lists c))) (state_of m) first-number l.resides))
 
 -- one member, and then the rest
 pub unlinked-next : (k c target : ℕ) (s : State) → unlink_members (suc k) c target s ≡ unlink_members k c target (first_unlinked c target (user_chain c s) s)

@@ -1,5 +1,6 @@
 -- What resting on the current events chain, and waiting for an assembly set, make of a machine; and how many are on the retry list.
-use Rattle.std.proofs.Common.{Some, ◌⊎◌, inl, inr, ◌≡◌, ℕ, zero, suc, ◌+◌, ◌^◌, ◌≤◌, ℤ, List, [], ◌∷◌, ◌++◌, map, length, None, IfSome, is_some, option_map, refl, sym, ap, ◌∙◌, subst, arith}
+use Rattle.std.proofs.Common.{Some, ◌⊎◌, inl, inr, ◌≡◌, ℕ, zero, suc, ◌+◌, ◌^◌, ◌≤◌, ℤ, List, [], ◌∷◌, ◌++◌, map, length, None, IfSome, is_some}
+use Rattle.std.proofs.Common.{option_map, refl, sym, ap, ◌∙◌, subst, arith}
 use Rattle.std.specs.Prelude.{Bool}
 use Rattle.std.specs.List.{AllByRecursion}
 use Rattle.std.proofs.lemmas.Bool.{cases_eq, eq-eqb, ne_eqb}
@@ -28,8 +29,11 @@ use Rattle.gw_machine.proofs.Due.{agree}
 -- OTHER MEMBERS
 
 -- other members of the current events chain and of the retry list, and other assemblies, each of whose handles is held
-pub linked-lists : (m new : Configuration) → new.transactions ≡ m.transactions → IfSome new.active (Holds m.transactions) → AllByRecursion (IsRanked m.transactions) new.current_events.items → new.future_events ≡ m.future_events → new.waits.lists ≡ m.waits.lists → AllByRecursion (IsRanked m.transactions) new.waits.retry
-    → AllByRecursion (IsHeldBy m.transactions) new.assemblies.items → new.chains ≡ m.chains → new.entities ≡ m.entities → new.clock ≡ m.clock → ResidesOnce (state_of new) → Linked m → Linked new
+pub linked-lists : (m new : Configuration) → new.transactions ≡ m.transactions → IfSome new.active (Holds m.transactions)
+    → AllByRecursion (IsRanked m.transactions) new.current_events.items → new.future_events ≡ m.future_events → new.waits.lists
+    ≡ m.waits.lists → AllByRecursion (IsRanked m.transactions) new.waits.retry
+    → AllByRecursion (IsHeldBy m.transactions) new.assemblies.items → new.chains ≡ m.chains → new.entities ≡ m.entities → new.clock
+    ≡ m.clock → ResidesOnce (state_of new) → Linked m → Linked new
 linked-lists m new ts a cs fs ws retry sets chs entities clock resides l = record {
   active = rw ts a;
   current_events = rw ts cs;
@@ -47,14 +51,19 @@ linked-lists m new ts a cs fs ws retry sets chs entities clock resides l = recor
 }
 
 -- the delay lists and the retry list stay
-pub linked-members : (m new : Configuration) → new.transactions ≡ m.transactions → IfSome new.active (Holds m.transactions) → AllByRecursion (IsRanked m.transactions) new.current_events.items → new.future_events ≡ m.future_events → new.waits ≡ m.waits → AllByRecursion (IsHeldBy m.transactions) new.assemblies.items → new.chains ≡ m.chains
+pub linked-members : (m new : Configuration) → new.transactions ≡ m.transactions → IfSome new.active (Holds m.transactions)
+    → AllByRecursion (IsRanked m.transactions) new.current_events.items → new.future_events ≡ m.future_events → new.waits ≡ m.waits
+    → AllByRecursion (IsHeldBy m.transactions) new.assemblies.items → new.chains ≡ m.chains
     → new.entities ≡ m.entities → new.clock ≡ m.clock → ResidesOnce (state_of new) → Linked m → Linked new
-linked-members m new ts a cs fs w sets chs entities clock resides l = linked-lists m new ts a cs fs (ap (λ (ws : Waiting). ws.lists) w) (rw w l.retry) sets chs entities clock resides l
+linked-members m new ts a cs fs w sets chs entities clock resides l =
+    linked-lists m new ts a cs fs (ap (λ (ws : Waiting). ws.lists) w) (rw w l.retry) sets chs entities clock resides l
 
 -- THE CURRENT EVENTS CHAIN
 
-module _ (m : Configuration) (tx : Tx) (priority : ℤ) (l : Linked m) (r : CanRest m tx) (rank : priority_of m.transactions.txs tx.number ≡ priority) (passes : ℤ → ℤ → Bool) (cs : List Member)
-    (given : ℤ) (same : given ≡ priority) (placed : cs ≡ placed_behind (λ (y : Member). passes given y.priority) (record { tx = tx; priority = given }) m.current_events.items) where
+module _ (m : Configuration) (tx : Tx) (priority : ℤ) (l : Linked m) (r : CanRest m tx)
+    (rank : priority_of m.transactions.txs tx.number ≡ priority) (passes : ℤ → ℤ → Bool) (cs : List Member)
+    (given : ℤ) (same : given ≡ priority)
+    (placed : cs ≡ placed_behind (λ (y : Member). passes given y.priority) (record { tx = tx; priority = given }) m.current_events.items) where
   abbrev rank_of : ℕ → ℤ
   rank_of = priority_of m.transactions.txs
 
@@ -66,36 +75,50 @@ module _ (m : Configuration) (tx : Tx) (priority : ℤ) (l : Linked m) (r : CanR
 
   -- the members' priorities are those of their numbers
   same_places : AllByRecursion (λ (y : Member). passes priority y.priority ≡ passes (rank_of tx.number) (rank_of (member_number y))) m.current_events.items
-  same_places = all_map (λ y. y.priority ≡ rank_of (member_number y)) (λ y. passes priority y.priority ≡ passes (rank_of tx.number) (rank_of (member_number y))) m.current_events.items (λ y h. rw (rank, h) refl) (agree m.transactions m.current_events.items l.current_events)
+  same_places = all_map (λ y. y.priority ≡ rank_of (member_number y))
+      (λ y. passes priority y.priority ≡ passes (rank_of tx.number) (rank_of (member_number y))) m.current_events.items
+      (λ y h. rw (rank, h) refl) (agree m.transactions m.current_events.items l.current_events)
 
   -- who was active rests at its place
   abbrev rests_there : State
-  rests_there = record (state_of m) { lists = record (lists_of m) { active = None; current_events = placed_behind (λ k. passes (rank_of tx.number) (rank_of k)) tx.number (lists_of m).current_events } }
+  rests_there = record (state_of m) {
+    lists = record (lists_of m)
+        { active = None; current_events = placed_behind (λ k. passes (rank_of tx.number) (rank_of k)) tx.number (lists_of m).current_events };
+  }
 
   pub state-joined : record (state_of m) { lists = record (lists_of m) { active = None; current_events = map member_number cs } } ≡ rests_there
   state-joined =
       ap (λ (ns : List ℕ). record (state_of m) { lists = record (lists_of m) { active = None; current_events = ns } })
-      (ap (map member_number) joined ∙ map-placed member_number (λ (y : Member). passes priority y.priority) (λ k. passes (rank_of tx.number) (rank_of k)) newcomer m.current_events.items same_places)
+      (ap (map member_number) joined
+      ∙ map-placed member_number (λ (y : Member). passes priority y.priority) (λ k. passes (rank_of tx.number) (rank_of k)) newcomer
+      m.current_events.items same_places)
 
-  pub linked-joined : (new : Configuration) → new.transactions ≡ m.transactions → new.active ≡ None → new.current_events.items ≡ cs → new.future_events ≡ m.future_events → new.waits ≡ m.waits → new.assemblies ≡ m.assemblies → new.chains ≡ m.chains
-      → new.entities ≡ m.entities → new.clock ≡ m.clock → state_of new ≡ rests_there → ((state_of m).lists.active ≡ Some tx.number → ResidesOnce (state_of m) → ResidesOnce rests_there) → Linked new
+  pub linked-joined : (new : Configuration) → new.transactions ≡ m.transactions → new.active ≡ None → new.current_events.items ≡ cs
+      → new.future_events ≡ m.future_events → new.waits ≡ m.waits → new.assemblies ≡ m.assemblies → new.chains ≡ m.chains
+      → new.entities ≡ m.entities → new.clock ≡ m.clock → state_of new ≡ rests_there
+      → ((state_of m).lists.active ≡ Some tx.number → ResidesOnce (state_of m) → ResidesOnce rests_there) → Linked new
   linked-joined new ts a c fs w sets chs entities clock is resides =
       linked-members m new ts (rw a tt)
-      (rw (c, joined) (all_placed (IsRanked m.transactions) (λ (y : Member). passes priority y.priority) newcomer m.current_events.items (record { held = r.held; rank = rank }) l.current_events))
+      (rw (c, joined) (all_placed (IsRanked m.transactions) (λ (y : Member). passes priority y.priority) newcomer m.current_events.items
+      (record { held = r.held; rank = rank }) l.current_events))
       fs w (rw sets l.assemblies) chs entities clock
       (subst ResidesOnce (sym is) (resides (ap (option_map (λ (x : Tx). x.number)) r.active) l.resides)) l
 
 -- ASSEMBLIES
 
-module _ (m : Configuration) (tx : Tx) (a : Assembling) (l : Linked m) (r : CanRest m tx) (sets : List HeldAssembly) (begun : sets ≡ m.assemblies.items ++ record { block = a.block; set = a.set; first = tx; missing = a.missing } ∷ []) where
+module _ (m : Configuration) (tx : Tx) (a : Assembling) (l : Linked m) (r : CanRest m tx) (sets : List HeldAssembly)
+    (begun : sets ≡ m.assemblies.items ++ record { block = a.block; set = a.set; first = tx; missing = a.missing } ∷ []) where
   abbrev first : HeldAssembly
   first = record { block = a.block; set = a.set; first = tx; missing = a.missing }
 
-  pub state-awaits : record (state_of m) { lists = record (lists_of m) { active = None; assemblies = map assembly_of sets } } ≡ awaits_set tx.number a (state_of m)
+  pub state-awaits : record (state_of m) { lists = record (lists_of m) { active = None; assemblies = map assembly_of sets } }
+      ≡ awaits_set tx.number a (state_of m)
   state-awaits =
-      ap (λ (xs : List Assembly). record (state_of m) { lists = record (lists_of m) { active = None; assemblies = xs } }) (ap (map assembly_of) begun ∙ map-append assembly_of m.assemblies.items (first ∷ []))
+      ap (λ (xs : List Assembly). record (state_of m) { lists = record (lists_of m) { active = None; assemblies = xs } })
+      (ap (map assembly_of) begun ∙ map-append assembly_of m.assemblies.items (first ∷ []))
 
-  pub linked-awaits : (new : Configuration) → new.transactions ≡ m.transactions → new.active ≡ None → new.current_events ≡ m.current_events → new.future_events ≡ m.future_events → new.waits ≡ m.waits → new.assemblies.items ≡ sets → new.chains ≡ m.chains
+  pub linked-awaits : (new : Configuration) → new.transactions ≡ m.transactions → new.active ≡ None → new.current_events ≡ m.current_events
+      → new.future_events ≡ m.future_events → new.waits ≡ m.waits → new.assemblies.items ≡ sets → new.chains ≡ m.chains
       → new.entities ≡ m.entities → new.clock ≡ m.clock → state_of new ≡ awaits_set tx.number a (state_of m) → Linked new
   linked-awaits new ts none cs fs w is_sets chs entities clock is =
       linked-members m new ts (rw none tt) (rw cs l.current_events) fs w
@@ -143,10 +166,12 @@ as_few (suc k) xs once below =
 -- numbers that reside in some list of a machine are no more than were ever made
 few-in : (m : Configuration) → Linked m → (ns : List ℕ) → ((n : ℕ) → occurrences n ns ≤ occurrences_in (state_of m).lists n) → length ns ≤ 2 ^ 62
 few-in m l ns within =
-    let each : (n : ℕ) → occurrences n ns ≤ one_if (is_some (at None m.transactions.txs n)) = λ n. (let all : occurrences_in (state_of m).lists n ≡ one_if (is_some (at None m.transactions.txs n)) = l.resides n in omega (arith, all, within n)) in
+    let each : (n : ℕ) → occurrences n ns ≤ one_if (is_some (at None m.transactions.txs n)) =
+    λ n. (let all : occurrences_in (state_of m).lists n ≡ one_if (is_some (at None m.transactions.txs n)) = l.resides n in omega (arith, all, within n)) in
     let few = as_few (length m.transactions.txs) ns
     (λ n. omega (arith, each n, at_most_one (is_some (at None m.transactions.txs n))))
-    (λ n from. let none : one_if (is_some (at None m.transactions.txs n)) ≡ 0 = ap (λ o. one_if (is_some o)) (at_past None m.transactions.txs n from) in omega (arith, each n, none)) in
+    (λ n from. let none : one_if (is_some (at None m.transactions.txs n)) ≡ 0 =
+    ap (λ o. one_if (is_some o)) (at_past None m.transactions.txs n from) in omega (arith, each n, none)) in
     omega (arith, few, l.sound.few)
 
 -- so are those on the retry list

@@ -1,5 +1,6 @@
 -- What another of a set that comes to an assembly makes of a machine.
-use Rattle.std.proofs.Common.{◌≡◌, ◌==◌, ℕ, ◌-◌, ◌<◌, ℤ, List, [], ◌∷◌, map, Option, Some, None, IfSome, Bool, true, false, if◌then◌else◌, option_map, refl, sym, ap, ◌∙◌, subst}
+use Rattle.std.proofs.Common.{◌≡◌, ◌==◌, ℕ, ◌-◌, ◌<◌, ℤ, List, [], ◌∷◌, map, Option, Some, None, IfSome, Bool, true, false, if◌then◌else◌, option_map}
+use Rattle.std.proofs.Common.{refl, sym, ap, ◌∙◌, subst}
 use Rattle.std.specs.Prelude.{int_le, IsSome}
 use Rattle.std.specs.List.{AllByRecursion, find}
 use Rattle.std.proofs.lemmas.Bool.{lt-leb, eqb-true, and_parts}
@@ -33,7 +34,8 @@ module _ {A B : Type 0} (f : A → B) (also : B → Bool) where
   find-map [] = refl
   find-map (x ∷ xs) = by_test (also (f x)) (find-map xs)
     where
-      by_test : (b : Bool) → find also (map f xs) ≡ option_map f (find passes xs) → (if b then Some (f x) else find also (map f xs)) ≡ option_map f (if b then Some x else find passes xs)
+      by_test : (b : Bool) → find also (map f xs) ≡ option_map f (find passes xs) → (if b then Some (f x) else find also (map f xs))
+          ≡ option_map f (if b then Some x else find passes xs)
       by_test true e = refl
       by_test false e = e
 
@@ -41,16 +43,19 @@ module _ {A B : Type 0} (f : A → B) (also : B → Bool) where
   map-without_first [] = refl
   map-without_first (x ∷ xs) = by_test (also (f x)) (map-without_first xs)
     where
-      by_test : (b : Bool) → map f (without_first passes xs) ≡ without_first also (map f xs) → map f (if b then xs else x ∷ without_first passes xs) ≡ (if b then map f xs else f x ∷ without_first also (map f xs))
+      by_test : (b : Bool) → map f (without_first passes xs) ≡ without_first also (map f xs)
+          → map f (if b then xs else x ∷ without_first passes xs) ≡ (if b then map f xs else f x ∷ without_first also (map f xs))
       by_test true e = refl
       by_test false e = ap (λ ys. f x ∷ ys) e
 
-  pub map-with_first_changed : (change : A → A) (as_well : B → B) → ((x : A) → f (change x) ≡ as_well (f x)) → (xs : List A) → map f (with_first_changed passes change xs) ≡ with_first_changed also as_well (map f xs)
+  pub map-with_first_changed : (change : A → A) (as_well : B → B) → ((x : A) → f (change x) ≡ as_well (f x)) → (xs : List A)
+      → map f (with_first_changed passes change xs) ≡ with_first_changed also as_well (map f xs)
   map-with_first_changed change as_well same [] = refl
   map-with_first_changed change as_well same (x ∷ xs) = by_test (also (f x)) (map-with_first_changed change as_well same xs)
     where
       by_test : (b : Bool) → map f (with_first_changed passes change xs) ≡ with_first_changed also as_well (map f xs)
-          → map f (if b then change x ∷ xs else x ∷ with_first_changed passes change xs) ≡ (if b then as_well (f x) ∷ map f xs else f x ∷ with_first_changed also as_well (map f xs))
+          → map f (if b then change x ∷ xs else x ∷ with_first_changed passes change xs)
+          ≡ (if b then as_well (f x) ∷ map f xs else f x ∷ with_first_changed also as_well (map f xs))
       by_test true e = ap (λ y. y ∷ map f xs) (same x)
       by_test false e = ap (λ ys. f x ∷ ys) e
 
@@ -65,11 +70,13 @@ module _ {A : Type 0} (P : A → Type 0) (passes : A → Bool) where
       by_test true rest = h.1
       by_test false rest = (h.0, rest)
 
-  all-with_first_changed : (change : A → A) → ((x : A) → P x → P (change x)) → (xs : List A) → AllByRecursion P xs → AllByRecursion P (with_first_changed passes change xs)
+  all-with_first_changed : (change : A → A) → ((x : A) → P x → P (change x)) → (xs : List A) → AllByRecursion P xs
+      → AllByRecursion P (with_first_changed passes change xs)
   all-with_first_changed change keeps [] h = tt
   all-with_first_changed change keeps (x ∷ xs) h = by_test (passes x) (all-with_first_changed change keeps xs h.1)
     where
-      by_test : (b : Bool) → AllByRecursion P (with_first_changed passes change xs) → AllByRecursion P (if b then change x ∷ xs else x ∷ with_first_changed passes change xs)
+      by_test : (b : Bool) → AllByRecursion P (with_first_changed passes change xs)
+          → AllByRecursion P (if b then change x ∷ xs else x ∷ with_first_changed passes change xs)
       by_test true rest = (keeps x h.0, h.1)
       by_test false rest = (h.0, rest)
 
@@ -96,7 +103,8 @@ pub more-come : (a : Assembly) (s : State) → 1 < a.missing → joined_by_one a
 more-come a s more = ap (λ b. if b then assemble_all a s else come_to a s) (lt-leb a.missing 1 more)
 
 -- an assembly is found as its state's is
-pub assembly-found : (m : Configuration) (block set : ℕ) → option_map assembly_of (find (is_held_of block set) m.assemblies.items) ≡ assembly_at block set (state_of m)
+pub assembly-found : (m : Configuration) (block set : ℕ) → option_map assembly_of (find (is_held_of block set) m.assemblies.items)
+    ≡ assembly_at block set (state_of m)
 assembly-found m block set = sym (find-map assembly_of (is_of block set) m.assemblies.items)
 
 -- what is found passes
@@ -109,7 +117,8 @@ found-passes {A = A} passes (x ∷ xs) a is = by_test (passes x) refl is (found-
     by_test false here is rest = rest is
 
 -- an assembly that is found is the one of the set at the block
-pub own-found : (block set : ℕ) (xs : List HeldAssembly) (o : Option HeldAssembly) → o ≡ find (is_held_of block set) xs → IfSome o (λ a. (a.block ≡ block) × (a.set ≡ set))
+pub own-found : (block set : ℕ) (xs : List HeldAssembly) (o : Option HeldAssembly) → o ≡ find (is_held_of block set) xs
+    → IfSome o (λ a. (a.block ≡ block) × (a.set ≡ set))
 own-found block set xs None is = tt
 own-found block set xs (Some a) is =
     let both = and_parts (a.block == block) (a.set == set) (found-passes (is_held_of block set) xs a (sym is)) in
@@ -137,29 +146,37 @@ module _ (m : Configuration) (l : Linked m) (a : HeldAssembly) (there : assembly
   waiter-number b is = ap (λ (x : Assembly). x.number) (same_of assembly_of found b (assembly_of a) is_there is)
 
   -- who waited goes on
-  module _ (b : HeldAssembly) (is : found ≡ Some b) (priority : ℤ) (rank : priority_of m.transactions.txs b.first.number ≡ priority) (cs : List Member) (joined : cs ≡ behind (λ (x : Member). x.priority) (record { tx = b.first; priority = priority }) m.current_events.items)
+  module _ (b : HeldAssembly) (is : found ≡ Some b) (priority : ℤ) (rank : priority_of m.transactions.txs b.first.number ≡ priority)
+      (cs : List Member) (joined : cs ≡ behind (λ (x : Member). x.priority) (record { tx = b.first; priority = priority }) m.current_events.items)
       (sets : List HeldAssembly) (left : sets ≡ without_first (is_held_of a.block a.set) m.assemblies.items) where
     abbrev newcomer : Member
     newcomer = record { tx = b.first; priority = priority }
 
-    pub state-assembled : record (state_of m) { lists = record (lists_of m) { current_events = map member_number cs; assemblies = map assembly_of sets } } ≡ assemble_all (assembly_of a) (state_of m)
+    pub state-assembled : record (state_of m)
+        { lists = record (lists_of m) { current_events = map member_number cs; assemblies = map assembly_of sets } } ≡ assemble_all (assembly_of a) (state_of m)
     state-assembled =
         ap (λ (ns : List ℕ). record (state_of m) { lists = record (lists_of m) { current_events = ns; assemblies = map assembly_of sets } })
-        (ap (map member_number) joined ∙ map-behind member_number (λ (x : Member). x.priority) (priority_of m.transactions.txs) newcomer m.current_events.items (sym rank) (agree m.transactions m.current_events.items l.current_events)
+        (ap (map member_number) joined
+        ∙ map-behind member_number (λ (x : Member). x.priority) (priority_of m.transactions.txs) newcomer m.current_events.items
+        (sym rank) (agree m.transactions m.current_events.items l.current_events)
         ∙ ap (λ n. behind (priority_of m.transactions.txs) n (map member_number m.current_events.items)) (waiter-number b is))
-        ∙ ap (λ (xs : List Assembly). record (assemble_all (assembly_of a) (state_of m)) { lists = record (assemble_all (assembly_of a) (state_of m)).lists { assemblies = xs } })
+        ∙ ap (λ (xs : List Assembly). record (assemble_all (assembly_of a) (state_of m))
+        { lists = record (assemble_all (assembly_of a) (state_of m)).lists { assemblies = xs } })
         (ap (map assembly_of) left ∙ map-without_first assembly_of (is_of a.block a.set) m.assemblies.items)
 
-    pub linked-assembled : (new : Configuration) → new.transactions ≡ m.transactions → new.active ≡ m.active → new.current_events.items ≡ cs → new.future_events ≡ m.future_events → new.waits ≡ m.waits → new.assemblies.items ≡ sets → new.chains ≡ m.chains
+    pub linked-assembled : (new : Configuration) → new.transactions ≡ m.transactions → new.active ≡ m.active → new.current_events.items
+        ≡ cs → new.future_events ≡ m.future_events → new.waits ≡ m.waits → new.assemblies.items ≡ sets → new.chains ≡ m.chains
         → new.entities ≡ m.entities → new.clock ≡ m.clock → state_of new ≡ assemble_all (assembly_of a) (state_of m) → Linked new
     linked-assembled new ts active c fs w s chs entities clock now =
         linked-members m new ts (rw active l.active)
-        (rw (c, joined) (all_placed (IsRanked m.transactions) (λ (y : Member). int_le priority y.priority) newcomer m.current_events.items (record { held = waiter-held b is; rank = rank }) l.current_events))
+        (rw (c, joined) (all_placed (IsRanked m.transactions) (λ (y : Member). int_le priority y.priority) newcomer m.current_events.items
+        (record { held = waiter-held b is; rank = rank }) l.current_events))
         fs w (rw (s, left) (all-without_first (IsHeldBy m.transactions) (is_held_of a.block a.set) m.assemblies.items l.assemblies)) chs entities clock
         (subst ResidesOnce (sym now) (resides-assembled (assembly_of a) (state_of m) there l.resides)) l
 
   -- more are to come
-  module _ (sets : List HeldAssembly) (changed : sets ≡ with_first_changed (is_held_of a.block a.set) (λ (x : HeldAssembly). record x { missing = x.missing - 1 }) m.assemblies.items) where
+  module _ (sets : List HeldAssembly)
+      (changed : sets ≡ with_first_changed (is_held_of a.block a.set) (λ (x : HeldAssembly). record x { missing = x.missing - 1 }) m.assemblies.items) where
     abbrev fewer : HeldAssembly → HeldAssembly
     fewer x = record x { missing = x.missing - 1 }
 
@@ -168,9 +185,11 @@ module _ (m : Configuration) (l : Linked m) (a : HeldAssembly) (there : assembly
         ap (λ (xs : List Assembly). record (state_of m) { lists = record (lists_of m) { assemblies = xs } })
         (ap (map assembly_of) changed ∙ map-with_first_changed assembly_of (is_of a.block a.set) fewer one_fewer (λ x. refl) m.assemblies.items)
 
-    pub linked-come : (new : Configuration) → new.transactions ≡ m.transactions → new.active ≡ m.active → new.current_events ≡ m.current_events → new.future_events ≡ m.future_events → new.waits ≡ m.waits → new.assemblies.items ≡ sets → new.chains ≡ m.chains
+    pub linked-come : (new : Configuration) → new.transactions ≡ m.transactions → new.active ≡ m.active → new.current_events
+        ≡ m.current_events → new.future_events ≡ m.future_events → new.waits ≡ m.waits → new.assemblies.items ≡ sets → new.chains ≡ m.chains
         → new.entities ≡ m.entities → new.clock ≡ m.clock → state_of new ≡ come_to (assembly_of a) (state_of m) → Linked new
     linked-come new ts active cs fs w s chs entities clock now =
         linked-members m new ts (rw active l.active) (rw cs l.current_events) fs w
-        (rw (s, changed) (all-with_first_changed (IsHeldBy m.transactions) (is_held_of a.block a.set) fewer (λ x h. h) m.assemblies.items l.assemblies)) chs entities clock
+        (rw (s, changed) (all-with_first_changed (IsHeldBy m.transactions) (is_held_of a.block a.set) fewer (λ x h. h) m.assemblies.items
+        l.assemblies)) chs entities clock
         (subst ResidesOnce (sym now) (resides-come (assembly_of a) (state_of m) l.resides)) l

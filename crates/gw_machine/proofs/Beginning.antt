@@ -1,5 +1,6 @@
 -- A machine in which nothing is scheduled.
-use Rattle.std.proofs.Common.{◌≡◌, ℕ, zero, suc, ◌+◌, ◌^◌, ◌<◌, pos, List, [], ◌∷◌, map, length, replicate, Option, None, refl, sym, ap, ◌∙◌, subst, false, arith}
+use Rattle.std.proofs.Common.{◌≡◌, ℕ, zero, suc, ◌+◌, ◌^◌, ◌<◌, pos, List, [], ◌∷◌, map, length, replicate, Option, None, refl, sym, ap, ◌∙◌, subst}
+use Rattle.std.proofs.Common.{false, arith}
 use Rattle.std.specs.Prelude.{sum}
 use Rattle.std.proofs.lemmas.Int.{ints}
 use Rattle.std.proofs.lemmas.List.{length-map, length-replicate}
@@ -64,7 +65,24 @@ module _ (p : Parts) (count : ℕ) (streams : List ℕ) (e : Option End) (m : Co
 
   pub state-nothing : state_of m ≡ record (nothing p count streams) { ended = e }
   state-nothing =
-      rw (delay_lists, user_chains, b.clock, b.count, b.steps, b.streams, b.scheduled, b.transactions, b.active, b.current_events, b.future_events, b.retry, b.assemblies, b.stir, b.entries, b.ended)
+      rw (
+        delay_lists,
+        user_chains,
+        b.clock,
+        b.count,
+        b.steps,
+        b.streams,
+        b.scheduled,
+        b.transactions,
+        b.active,
+        b.current_events,
+        b.future_events,
+        b.retry,
+        b.assemblies,
+        b.stir,
+        b.entries,
+        b.ended,
+      )
       (ap (λ (g : EntityStates). record (nothing p count streams) { entities = g; ended = e }) (states-at_start p count streams m.entities b.entities))
 
   pub linked-nothing : Linked m

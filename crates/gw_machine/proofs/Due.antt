@@ -31,37 +31,52 @@ module _ (p : Population) where
   pub agree : (xs : List Member) → AllByRecursion (IsRanked p) xs → AllByRecursion (λ (m : Member). m.priority ≡ priority_of p.txs (member_number m)) xs
   agree xs h = all_map (IsRanked p) (λ (m : Member). m.priority ≡ priority_of p.txs (member_number m)) xs (λ x r. sym r.rank) h
 
-  numbers-due : (time : ℤ) (es : List Event) → map (λ (e : Event). e.tx.number) (due (λ (e : Event). e.time) time es) ≡ numbers (due (λ (e : FutureEvent). e.time) time (map event_of es))
+  numbers-due : (time : ℤ) (es : List Event) → map (λ (e : Event). e.tx.number) (due (λ (e : Event). e.time) time es)
+      ≡ numbers (due (λ (e : FutureEvent). e.time) time (map event_of es))
   numbers-due time es =
       sym (map-map (λ (e : FutureEvent). e.number) event_of (due (λ (e : Event). e.time) time es))
       ∙ ap numbers (map-due event_of (λ (e : Event). e.time) (λ (e : FutureEvent). e.time) time es (λ x. refl))
 
   pub numbers-joined : (time : ℤ) (es : List Event) (cec : List Member) → AllByRecursion (IsHeld p) es → AllByRecursion (IsRanked p) cec
-      → map member_number (all_behind (λ (m : Member). m.priority) (as_members p (due (λ (e : Event). e.time) time es)) cec) ≡ all_behind (priority_of p.txs) (numbers (due (λ (e : FutureEvent). e.time) time (map event_of es))) (map member_number cec)
+      → map member_number (all_behind (λ (m : Member). m.priority) (as_members p (due (λ (e : Event). e.time) time es)) cec)
+      ≡ all_behind (priority_of p.txs) (numbers (due (λ (e : FutureEvent). e.time) time (map event_of es))) (map member_number cec)
   numbers-joined time es cec held rank =
       let soon = due (λ (e : Event). e.time) time es in
-      map-all_behind member_number (λ (m : Member). m.priority) (priority_of p.txs) (as_members p soon) cec (agree (as_members p soon) (all_ranked soon (all_due (IsHeld p) (λ (e : Event). e.time) time es held))) (agree cec rank)
+      map-all_behind member_number (λ (m : Member). m.priority) (priority_of p.txs) (as_members p soon) cec
+      (agree (as_members p soon) (all_ranked soon (all_due (IsHeld p) (λ (e : Event). e.time) time es held))) (agree cec rank)
       ∙ ap (λ ns. all_behind (priority_of p.txs) ns (map member_number cec)) (numbers-ranked soon ∙ numbers-due time es)
 
   pub ranked-joined : (time : ℤ) (es : List Event) (cec : List Member) → AllByRecursion (IsHeld p) es → AllByRecursion (IsRanked p) cec
       → AllByRecursion (IsRanked p) (all_behind (λ (m : Member). m.priority) (as_members p (due (λ (e : Event). e.time) time es)) cec)
   ranked-joined time es cec held rank =
       let soon = due (λ (e : Event). e.time) time es in
-      all_all_behind (IsRanked p) (λ (m : Member). m.priority) (as_members p soon) cec (all_ranked soon (all_due (IsHeld p) (λ (e : Event). e.time) time es held)) rank
+      all_all_behind (IsRanked p) (λ (m : Member). m.priority) (as_members p soon) cec
+      (all_ranked soon (all_due (IsHeld p) (λ (e : Event). e.time) time es held)) rank
 
 module _ (m : Configuration) (time : ℤ) (cs : List Member) (fs : List Event) (g : EntityStates) (l : Linked m)
-    (joined : cs ≡ all_behind (λ (x : Member). x.priority) (as_members m.transactions (due (λ (e : Event). e.time) time m.future_events.items)) m.current_events.items)
+    (joined : cs ≡ all_behind (λ (x : Member). x.priority)
+    (as_members m.transactions (due (λ (e : Event). e.time) time m.future_events.items)) m.current_events.items)
     (left : fs ≡ later (λ (e : Event). e.time) time m.future_events.items)
     (passed : g ≡ time_passes (unsigned_abs (time -ℤ m.clock)) (states_of m.entities)) where
-  pub state-moved : record (state_of m) { clock = time; entities = g; lists = record (lists_of m) { current_events = map member_number cs; future_events = map event_of fs } } ≡ clock_moves time (state_of m)
+  pub state-moved : record (state_of m) {
+    clock = time;
+    entities = g;
+    lists =
+        record (lists_of m) { current_events = map member_number cs; future_events = map event_of fs };
+  } ≡ clock_moves time (state_of m)
   state-moved =
-      ap (λ (ns : List ℕ). record (state_of m) { clock = time; entities = g; lists = record (lists_of m) { current_events = ns; future_events = map event_of fs } })
+      ap (λ (ns : List ℕ). record (state_of m)
+      { clock = time; entities = g; lists = record (lists_of m) { current_events = ns; future_events = map event_of fs } })
       (ap (map member_number) joined ∙ numbers-joined m.transactions time m.future_events.items m.current_events.items l.future_events l.current_events)
-      ∙ ap (λ (es : List FutureEvent). record (clock_moves time (state_of m)) { entities = g; lists = record (clock_moves time (state_of m)).lists { future_events = es } })
+      ∙ ap (λ (es : List FutureEvent). record (clock_moves time (state_of m))
+      { entities = g; lists = record (clock_moves time (state_of m)).lists { future_events = es } })
       (ap (map event_of) left ∙ map-later event_of (λ (e : Event). e.time) (λ (e : FutureEvent). e.time) time m.future_events.items (λ x. refl))
       ∙ ap (λ (h : EntityStates). record (clock_moves time (state_of m)) { entities = h }) passed
 
-  pub linked-moved : (new : Configuration) → new.transactions ≡ m.transactions → new.active ≡ m.active → new.current_events.items ≡ cs → new.future_events.items ≡ fs → new.waits ≡ m.waits → new.assemblies ≡ m.assemblies → new.chains ≡ m.chains → length new.entities.facilities.values ≡ length m.entities.facilities.values → AreTimed new.entities new.clock → state_of new ≡ clock_moves time (state_of m) → Linked new
+  pub linked-moved : (new : Configuration) → new.transactions ≡ m.transactions → new.active ≡ m.active → new.current_events.items ≡ cs
+      → new.future_events.items ≡ fs → new.waits ≡ m.waits → new.assemblies ≡ m.assemblies → new.chains ≡ m.chains
+      → length new.entities.facilities.values ≡ length m.entities.facilities.values → AreTimed new.entities new.clock → state_of new
+      ≡ clock_moves time (state_of m) → Linked new
   linked-moved new ts a c f ws assemblies chs count timed is = record {
     active = rw (ts, a) l.active;
     current_events = rw (ts, c, joined) (ranked-joined m.transactions time m.future_events.items m.current_events.items l.future_events l.current_events);

@@ -1,5 +1,6 @@
 -- What evaluations come to.
-use Rattle.std.proofs.Common.{◌≡◌, ◌≢◌, ℕ, suc, zero, ◌-◌, ◌%◌, ◌<◌, ◌==◌, pos, ℤ, List, [], ◌∷◌, length, get_or, Option, Some, None, Result, Ok, Err, true, option_map, refl, sym, ap, ◌∙◌, arith}
+use Rattle.std.proofs.Common.{◌≡◌, ◌≢◌, ℕ, suc, zero, ◌-◌, ◌%◌, ◌<◌, ◌==◌, pos, ℤ, List, [], ◌∷◌, length, get_or, Option, Some, None, Result, Ok, Err}
+use Rattle.std.proofs.Common.{true, option_map, refl, sym, ap, ◌∙◌, arith}
 use Rattle.std.specs.Prelude.{slice_set, unwrap_or, IfSome}
 use Rattle.std.specs.List.{All}
 use Rattle.std.specs.Option.{option_map_or, option_flatten, IsSomeAnd}
@@ -48,7 +49,8 @@ use Rattle.gw_machine.specs.Evaluating.{value_outcome}
 pub parameter-read : (n k : ℕ) (s : State) → parameter_at n k s.transactions ≡ at None (parameters_of n s) k
 parameter-read n k s = by (at None s.transactions n)
   where
-    by : (o : Option LiveTransaction) → option_flatten (option_map (λ (t : LiveTransaction). at None t.parameters k) o) ≡ at None (option_map_or (λ (t : LiveTransaction). t.parameters) o no_parameters) k
+    by : (o : Option LiveTransaction) → option_flatten (option_map (λ (t : LiveTransaction). at None t.parameters k) o)
+        ≡ at None (option_map_or (λ (t : LiveTransaction). t.parameters) o no_parameters) k
     by None = sym (at-replicate None 65 k)
     by (Some t) = refl
 
@@ -56,7 +58,8 @@ parameter-read n k s = by (at None s.transactions n)
 
 -- what the machine draws
 pub below-drawn : (bound j : ℕ) (streams : List ℕ) (d drawn moved : ℕ) → j - 1 < length streams
-    → drawn ≡ next_after (get_or streams (j - 1) d) % bound → moved ≡ next_after (get_or streams (j - 1) d) → drawn_below bound j streams ≡ (pos drawn, slice_set streams (j - 1) moved)
+    → drawn ≡ next_after (get_or streams (j - 1) d) % bound → moved ≡ next_after (get_or streams (j - 1) d) → drawn_below bound j streams
+    ≡ (pos drawn, slice_set streams (j - 1) moved)
 below-drawn bound j streams d drawn moved within is m =
     let x = get_or streams (j - 1) d in
     ap (λ (y : ℕ). (pos (next_after y % bound), slice_set streams (j - 1) (next_after y))) (at-get_or_any 1 d streams (j - 1) within)
@@ -82,7 +85,8 @@ or_other : (o : Option Operand) (other : Operand) → IfSome o OperandFits → O
 or_other None other h k = k
 or_other (Some o) other h k = h
 
-function_fits : (attribute : EntityAttribute) (argument other : Operand) → OperandFits argument → OperandFits other → OperandFits (if_function attribute argument other)
+function_fits : (attribute : EntityAttribute) (argument other : Operand) → OperandFits argument → OperandFits other
+    → OperandFits (if_function attribute argument other)
 function_fits FunctionValue argument other h k = h
 function_fits attribute argument other h k = k
 
@@ -120,7 +124,8 @@ module _ (p : Parts) (env : Env) (a : Environment) (same : ReadTheSame (lent.env
       by (Some pr) is h = (pr, is, h, set_same pr.needs (rw is at set))
 
   -- what is kept may be read, where kinds hold and a parameter that is read is set
-  pub may_read_kept : lent.IsOf p env → (o : Operand) → OperandHolds p o → HasSet a (asked_by_source p o) → ((j : ℕ) → o ≢ Random j) → ((q : ℕ) → o ≢ Procedure q) → lent.MayReadKept env o
+  pub may_read_kept : lent.IsOf p env → (o : Operand) → OperandHolds p o → HasSet a (asked_by_source p o) → ((j : ℕ) → o ≢ Random j)
+      → ((q : ℕ) → o ≢ Procedure q) → lent.MayReadKept env o
   may_read_kept of (Constant z) holds set not_drawn not_called = tt
   may_read_kept of (Parameter x) holds set not_drawn not_called =
       let among : (x == x) ≡ true = grind (arith, nat_tests) in
@@ -134,7 +139,9 @@ module _ (p : Parts) (env : Env) (a : Environment) (same : ReadTheSame (lent.env
   -- WHAT SOURCES COME TO
 
   -- what a procedure comes to
-  pub procedure-value : HasSpelling p → Checked p → (bound q : ℕ) (streams : List ℕ) (r : Result ℤ PlusEnd) → lent.CanEvaluate p (lent.environment_of env) q → Evaluates p (lent.environment_of env) q [] r → source_value p a bound (Procedure q) streams ≡ value_outcome r streams
+  pub procedure-value : HasSpelling p → Checked p → (bound q : ℕ) (streams : List ℕ) (r : Result ℤ PlusEnd)
+      → lent.CanEvaluate p (lent.environment_of env) q → Evaluates p (lent.environment_of env) q [] r
+      → source_value p a bound (Procedure q) streams ≡ value_outcome r streams
   procedure-value fits checked bound q streams r can evaluated =
       let may : MayBegin p (lent.environment_of env) q can.0 [] = record { there = can.1; arguments = sym can.2; needs = can.3 } in
       let one = outcomes_are_evaluated_law p (lent.environment_of env) q can.0 fits (kinds_pass p checked) (plus_passes p checked) may in
@@ -147,7 +154,8 @@ module _ (p : Parts) (env : Env) (a : Environment) (same : ReadTheSame (lent.env
       came (Err end) = refl
 
   -- what is kept
-  pub kept-value : (bound : ℕ) (o : Operand) (streams : List ℕ) (value : ℤ) → kept_value (lent.environment_of env) o ≡ Some value → ((j : ℕ) → o ≢ Random j) → ((q : ℕ) → o ≢ Procedure q) → source_value p a bound o streams ≡ value_outcome (Ok value) streams
+  pub kept-value : (bound : ℕ) (o : Operand) (streams : List ℕ) (value : ℤ) → kept_value (lent.environment_of env) o ≡ Some value
+      → ((j : ℕ) → o ≢ Random j) → ((q : ℕ) → o ≢ Procedure q) → source_value p a bound o streams ≡ value_outcome (Ok value) streams
   kept-value bound (Random j) streams value is not_drawn not_called = absurd (not_drawn j refl)
   kept-value bound (Procedure q) streams value is not_drawn not_called = absurd (not_called q refl)
   kept-value bound o streams value is not_drawn not_called = ap (λ v. if_set v >>= λ x. Value (x, streams)) (sym (same.kept o) ∙ is)

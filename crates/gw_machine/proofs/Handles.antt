@@ -1,5 +1,6 @@
 -- The handles of a machine through a change of its transactions.
-use Rattle.std.proofs.Common.{◌≡◌, ℕ, ◌≤◌, ℤ, List, [], ◌∷◌, ◌++◌, map, length, Option, Some, None, IfSome, option_map, refl, sym, ap, ◌∙◌, subst, arith, inl, inr}
+use Rattle.std.proofs.Common.{◌≡◌, ℕ, ◌≤◌, ℤ, List, [], ◌∷◌, ◌++◌, map, length, Option, Some, None, IfSome, option_map, refl, sym, ap, ◌∙◌, subst}
+use Rattle.std.proofs.Common.{arith, inl, inr}
 use Rattle.std.specs.List.{AllByRecursion}
 use Rattle.std.proofs.lemmas.Bool.{cases_eq}
 use Rattle.gw_members.specs.declared.tx.Tx.{Tx}
@@ -8,7 +9,8 @@ use Rattle.gw_members.specs.declared.tx.Event.{Event}
 use Rattle.gw_assemblies.specs.declared.assemblies.Assembly.{Assembly}
 use Rattle.gw_transactions.specs.declared.Transaction.{Transaction}
 use Rattle.gw_num.specs.Table.{at, put}
-use Rattle.gw_transactions.specs.Transactions.{LiveTransaction, Population, put_attributes, put_parameter, put_chain, with_attributes, with_parameter, with_chain, Holds, IsSound}
+use Rattle.gw_transactions.specs.Transactions.{LiveTransaction, Population, put_attributes, put_parameter, put_chain, with_attributes, with_parameter}
+use Rattle.gw_transactions.specs.Transactions.{with_chain, Holds, IsSound}
 use Rattle.gw_num.proofs.Tables.{at-put, at-put_other, by_entry}
 use Rattle.gw_step.specs.State.{priority_in, priority_of}
 use Rattle.gw_step.specs.Residence.{occurrences}
@@ -25,22 +27,26 @@ pub active_carried : (p q : Population) → Carries Every p q → (a : Option Tx
 active_carried p q c None h = tt
 active_carried p q c (Some tx) h = c.held tx tt h
 
-pub members_carried : (these : ℕ → Type 0) (p q : Population) → Carries these p q → (xs : List Member) → AllByRecursion (λ (x : Member). these x.tx.number) xs → AllByRecursion (IsRanked p) xs → AllByRecursion (IsRanked q) xs
+pub members_carried : (these : ℕ → Type 0) (p q : Population) → Carries these p q → (xs : List Member)
+    → AllByRecursion (λ (x : Member). these x.tx.number) xs → AllByRecursion (IsRanked p) xs → AllByRecursion (IsRanked q) xs
 members_carried these p q c [] ts h = tt
 members_carried these p q c (x ∷ xs) ts h = (
   record { held = c.held x.tx ts.0 h.0.held; rank = c.rank x.tx ts.0 h.0.held ∙ h.0.rank },
   members_carried these p q c xs ts.1 h.1,
 )
 
-pub events_carried : (these : ℕ → Type 0) (p q : Population) → Carries these p q → (xs : List Event) → AllByRecursion (λ (x : Event). these x.tx.number) xs → AllByRecursion (IsHeld p) xs → AllByRecursion (IsHeld q) xs
+pub events_carried : (these : ℕ → Type 0) (p q : Population) → Carries these p q → (xs : List Event)
+    → AllByRecursion (λ (x : Event). these x.tx.number) xs → AllByRecursion (IsHeld p) xs → AllByRecursion (IsHeld q) xs
 events_carried these p q c [] ts h = tt
 events_carried these p q c (x ∷ xs) ts h = (c.held x.tx ts.0 h.0, events_carried these p q c xs ts.1 h.1)
 
-pub assemblies_carried : (these : ℕ → Type 0) (p q : Population) → Carries these p q → (xs : List Assembly) → AllByRecursion (λ (x : Assembly). these x.first.number) xs → AllByRecursion (IsHeldBy p) xs → AllByRecursion (IsHeldBy q) xs
+pub assemblies_carried : (these : ℕ → Type 0) (p q : Population) → Carries these p q → (xs : List Assembly)
+    → AllByRecursion (λ (x : Assembly). these x.first.number) xs → AllByRecursion (IsHeldBy p) xs → AllByRecursion (IsHeldBy q) xs
 assemblies_carried these p q c [] ts h = tt
 assemblies_carried these p q c (x ∷ xs) ts h = (c.held x.first ts.0 h.0, assemblies_carried these p q c xs ts.1 h.1)
 
-pub handles_carried : (these : ℕ → Type 0) (p q : Population) → Carries these p q → (xs : List Tx) → AllByRecursion (λ (x : Tx). these x.number) xs → AllByRecursion (Holds p) xs → AllByRecursion (Holds q) xs
+pub handles_carried : (these : ℕ → Type 0) (p q : Population) → Carries these p q → (xs : List Tx)
+    → AllByRecursion (λ (x : Tx). these x.number) xs → AllByRecursion (Holds p) xs → AllByRecursion (Holds q) xs
 handles_carried these p q c [] ts h = tt
 handles_carried these p q c (x ∷ xs) ts h = (c.held x ts.0 h.0, handles_carried these p q c xs ts.1 h.1)
 
@@ -63,7 +69,8 @@ priority-parameter k value (Some t) = refl
 
 pub priority-assigned : (n k : ℕ) (value : ℤ) (ts : List (Option LiveTransaction)) (m : ℕ) → priority_of (put_parameter n k value ts) m ≡ priority_of ts m
 priority-assigned n k value ts m = elim (cases_eq m n) [
-  | inl e ↦ ap (priority_of (put_parameter n k value ts)) e ∙ ap priority_in (at-put None ts n _) ∙ priority-parameter k value (at None ts n) ∙ sym (ap (priority_of ts) e)
+  | inl e ↦ ap (priority_of (put_parameter n k value ts)) e ∙ ap priority_in (at-put None ts n _)
+      ∙ priority-parameter k value (at None ts n) ∙ sym (ap (priority_of ts) e)
   | inr e ↦ ap priority_in (at-put_other None ts n m _ e)
 ]
 
@@ -107,11 +114,13 @@ current_in ts n t h there = subst InBlocks there (h n)
 -- WHAT EACH CALL CARRIES
 
 -- one transaction was written, with the priority that it had
-pub carries-set : (p q : Population) (n : ℕ) (t : Transaction) → q.txs ≡ put_attributes n t p.txs → q.places ≡ p.places → t.current ≤ 4096 → priority_of p.txs n ≡ t.priority → q.last ≡ p.last → Carries Every p q
+pub carries-set : (p q : Population) (n : ℕ) (t : Transaction) → q.txs ≡ put_attributes n t p.txs → q.places ≡ p.places → t.current ≤ 4096
+    → priority_of p.txs n ≡ t.priority → q.last ≡ p.last → Carries Every p q
 carries-set p q n t ts ps block pr last = record {
   held = λ h _ is. ap (λ xs. at None xs h.number) ps ∙ is;
   rank = λ h _ is. elim (cases_eq h.number n) [
-    | inl e ↦ ap (λ xs. priority_of xs h.number) ts ∙ ap (priority_of (put_attributes n t p.txs)) e ∙ ap priority_in (at-put None p.txs n _) ∙ priority-attributes t (at None p.txs n) pr ∙ sym (ap (priority_of p.txs) e)
+    | inl e ↦ ap (λ xs. priority_of xs h.number) ts ∙ ap (priority_of (put_attributes n t p.txs)) e
+        ∙ ap priority_in (at-put None p.txs n _) ∙ priority-attributes t (at None p.txs n) pr ∙ sym (ap (priority_of p.txs) e)
     | inr e ↦ ap (λ xs. priority_of xs h.number) ts ∙ ap priority_in (at-put_other None p.txs n h.number _ e)
   ];
   blocks = λ h. subst AreInBlocks (sym ts) (in_blocks-put p.txs n _ (with_attributes_in t (at None p.txs n) block) h);
@@ -119,7 +128,8 @@ carries-set p q n t ts ps block pr last = record {
 }
 
 -- one transaction was written, with another priority
-pub carries-ranked : (p q : Population) (n : ℕ) (t : Transaction) → q.txs ≡ put_attributes n t p.txs → q.places ≡ p.places → t.current ≤ 4096 → q.last ≡ p.last → Carries (Others n) p q
+pub carries-ranked : (p q : Population) (n : ℕ) (t : Transaction) → q.txs ≡ put_attributes n t p.txs → q.places ≡ p.places → t.current
+    ≤ 4096 → q.last ≡ p.last → Carries (Others n) p q
 carries-ranked p q n t ts ps block last = record {
   held = λ h other is. ap (λ xs. at None xs h.number) ps ∙ is;
   rank = λ h other is. ap (λ xs. priority_of xs h.number) ts ∙ ap priority_in (at-put_other None p.txs n h.number _ other);
@@ -129,10 +139,18 @@ carries-ranked p q n t ts ps block last = record {
 
 -- nothing changed
 pub carries-same : (p q : Population) → q.txs ≡ p.txs → q.places ≡ p.places → q.last ≡ p.last → Carries Every p q
-carries-same p q ts ps last = record { held = λ h _ is. ap (λ xs. at None xs h.number) ps ∙ is; rank = λ h _ is. ap (λ xs. priority_of xs h.number) ts; blocks = λ h. subst AreInBlocks (sym ts) h; last = last }
+carries-same p q ts ps last =
+    record {
+      held = λ h _ is. ap (λ xs. at None xs h.number) ps ∙ is;
+      rank = λ h _ is. ap (λ xs. priority_of xs h.number) ts;
+      blocks =
+          λ h. subst AreInBlocks (sym ts) h;
+      last = last;
+    }
 
 -- a parameter of one was set
-pub carries-assign : (p q : Population) (n k : ℕ) (value : ℤ) → q.txs ≡ put_parameter n k value p.txs → q.places ≡ p.places → q.last ≡ p.last → Carries Every p q
+pub carries-assign : (p q : Population) (n k : ℕ) (value : ℤ) → q.txs ≡ put_parameter n k value p.txs → q.places ≡ p.places → q.last
+    ≡ p.last → Carries Every p q
 carries-assign p q n k value ts ps last = record {
   held = λ h _ is. ap (λ xs. at None xs h.number) ps ∙ is;
   rank = λ h _ is. ap (λ xs. priority_of xs h.number) ts ∙ priority-assigned n k value p.txs h.number;
@@ -150,10 +168,13 @@ carries-chain p q n chain ts ps last = record {
 }
 
 -- one was made
-pub carries-insert : (p q : Population) (t : LiveTransaction) (place : ℕ) → IsSound p → t.attributes.current ≤ 4096 → q.txs ≡ put None p.txs (length p.txs) (Some t) → q.places ≡ put None p.places (length p.txs) (Some place) → q.last ≡ p.last → Carries Every p q
+pub carries-insert : (p q : Population) (t : LiveTransaction) (place : ℕ) → IsSound p → t.attributes.current ≤ 4096 → q.txs
+    ≡ put None p.txs (length p.txs) (Some t) → q.places ≡ put None p.places (length p.txs) (Some place) → q.last ≡ p.last → Carries Every p q
 carries-insert p q t place sound block ts ps last = record {
-  held = λ h _ is. ap (λ xs. at None xs h.number) ps ∙ at-put_other None p.places (length p.txs) h.number (Some place) (λ e. absurd (omega (arith, sound.below h.number h.place is, e))) ∙ is;
-  rank = λ h _ is. ap (λ xs. priority_of xs h.number) ts ∙ ap priority_in (at-put_other None p.txs (length p.txs) h.number (Some t) (λ e. absurd (omega (arith, sound.below h.number h.place is, e))));
+  held = λ h _ is. ap (λ xs. at None xs h.number) ps
+      ∙ at-put_other None p.places (length p.txs) h.number (Some place) (λ e. absurd (omega (arith, sound.below h.number h.place is, e))) ∙ is;
+  rank = λ h _ is. ap (λ xs. priority_of xs h.number) ts
+      ∙ ap priority_in (at-put_other None p.txs (length p.txs) h.number (Some t) (λ e. absurd (omega (arith, sound.below h.number h.place is, e))));
   blocks = λ h. subst AreInBlocks (sym ts) (in_blocks-put p.txs (length p.txs) (Some t) block h);
   last = last;
 }

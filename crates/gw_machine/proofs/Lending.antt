@@ -89,5 +89,6 @@ module _ (m : Configuration) (subject : Subject) (env : Env) (l : Lends m subjec
       }
 
   -- who evaluates for the subject reads the same as in the state, and of the same object
-  pub lends : Linked m → CanEvaluate m subject → ReadTheSame (lent.environment_of env) (environment_for subject (state_of m)) × ((p : Parts) → IsOf p m → lent.IsOf p env)
+  pub lends : Linked m → CanEvaluate m subject → ReadTheSame (lent.environment_of env) (environment_for subject (state_of m))
+      × ((p : Parts) → IsOf p m → lent.IsOf p env)
   lends k can = (reads_the_same, lends_of k can)

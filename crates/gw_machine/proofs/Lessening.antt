@@ -1,5 +1,6 @@
 -- The least units that those ask who are counted.
-use Rattle.std.proofs.Common.{◌≡◌, ℕ, zero, suc, ◌+◌, ◌≤◌, ◌<◌, ◌==◌, if◌then◌else◌, Bool, true, false, List, [], ◌∷◌, map, drop, Option, Some, None, refl, sym, ap, ◌∙◌, subst, inl, inr, ◌⊎◌, arith}
+use Rattle.std.proofs.Common.{◌≡◌, ℕ, zero, suc, ◌+◌, ◌≤◌, ◌<◌, ◌==◌, if◌then◌else◌, Bool, true, false, List, [], ◌∷◌, map, drop, Option, Some, None}
+use Rattle.std.proofs.Common.{refl, sym, ap, ◌∙◌, subst, inl, inr, ◌⊎◌, arith}
 use Rattle.std.specs.Prelude.{nat_le}
 use Rattle.std.specs.Option.{option_map_or}
 use Rattle.std.proofs.lemmas.Bool.{cases_eq, eq-eqb, ne_eqb, leb-true, leb-false, lt-leb}
@@ -66,7 +67,8 @@ module _ (bs : List Block) (e : ℕ) where
   )
 
   -- whoever is wanted was so before, or asks what this want asks
-  was_or_now : (f : ℕ → ℕ) (w : Want) (b : ℕ) (u : Units) → IsWanted bs e (λ k. f k + counted_at k w) b u → (IsWanted bs e f b u) ⊎ ((b ≡ w.block) × (0 < w.waiting))
+  was_or_now : (f : ℕ → ℕ) (w : Want) (b : ℕ) (u : Units) → IsWanted bs e (λ k. f k + counted_at k w) b u → (IsWanted bs e f b u)
+      ⊎ ((b ≡ w.block) × (0 < w.waiting))
   was_or_now f w b u h = elim (cases_eq w.block b) [
     | inl same ↦ by_count (f b) refl (sym same)
     | inr other ↦ inl (record { some = let none : counted_at b w ≡ 0 = rw (ne_eqb w.block b other) refl in omega (arith, h.some, none); asks = h.asks })
@@ -81,13 +83,15 @@ module _ (bs : List Block) (e : ℕ) where
   counted-here : (w : Want) → counted_at w.block w ≡ w.waiting
   counted-here w = rw (eq-eqb w.block w.block refl) refl
 
-  same-asked : (w : Want) (b : ℕ) (u v : Units) → b ≡ w.block → units_asked e (block_at bs w.block) ≡ Some v → units_asked e (block_at bs b) ≡ Some u → u.number ≡ v.number
+  same-asked : (w : Want) (b : ℕ) (u v : Units) → b ≡ w.block → units_asked e (block_at bs w.block) ≡ Some v
+      → units_asked e (block_at bs b) ≡ Some u → u.number ≡ v.number
   same-asked w b u v here asks also =
       let both : Some u ≡ Some v = sym also ∙ ap (λ k. units_asked e (block_at bs k)) here ∙ asks in
       ap (λ (o : Option Units). elim o [ None ↦ 0 | Some x ↦ x.number ]) both
 
   -- one more want is looked at
-  less : (f : ℕ → ℕ) (w : Want) → 0 < w.waiting → (least : Least) (o : Option Units) → units_asked e (block_at bs w.block) ≡ o → IsSaid least → IsLeast bs e f least → IsLeast bs e (λ k. f k + counted_at k w) (lesser least o) × IsSaid (lesser least o)
+  less : (f : ℕ → ℕ) (w : Want) → 0 < w.waiting → (least : Least) (o : Option Units) → units_asked e (block_at bs w.block) ≡ o
+      → IsSaid least → IsLeast bs e f least → IsLeast bs e (λ k. f k + counted_at k w) (lesser least o) × IsSaid (lesser least o)
   less f w some Unknown o is said h = absurd said
   less f w some Nobody None is said h = (
     (λ b u v. elim (was_or_now f w b u v) [
@@ -140,7 +144,8 @@ module _ (bs : List Block) (e : ℕ) where
         tt,
       )
 
-  stepped : (f : ℕ → ℕ) (w : Want) (least : Least) → IsSaid least → IsLeast bs e f least → IsLeast bs e (λ k. f k + counted_at k w) (step bs e least w) × IsSaid (step bs e least w)
+  stepped : (f : ℕ → ℕ) (w : Want) (least : Least) → IsSaid least → IsLeast bs e f least
+      → IsLeast bs e (λ k. f k + counted_at k w) (step bs e least w) × IsSaid (step bs e least w)
   stepped f w least said h = by_count w.waiting refl
     where
       either_way : (b : Bool) (n : ℕ) → (if b then n else n) ≡ n
@@ -154,11 +159,13 @@ module _ (bs : List Block) (e : ℕ) where
           other_zero : w.waiting ≡ suc n → (w.waiting == 0) ≡ false
           other_zero is = ne_eqb w.waiting 0 (λ none. absurd (omega (arith, none, is)))
 
-  least-of : (ws : List Want) (f : ℕ → ℕ) (least : Least) → IsSaid least → IsLeast bs e f least → IsLeast bs e (λ k. f k + want_count k ws) (least_in bs e ws least)
+  least-of : (ws : List Want) (f : ℕ → ℕ) (least : Least) → IsSaid least → IsLeast bs e f least
+      → IsLeast bs e (λ k. f k + want_count k ws) (least_in bs e ws least)
   least-of [] f least said h = least-by f (λ k. f k + want_count k []) (λ b. omega arith) least h
   least-of (w ∷ ws) f least said h =
       let s = stepped f w least said h in
-      least-by (λ k. f k + counted_at k w + want_count k ws) (λ k. f k + want_count k (w ∷ ws)) (λ b. omega (arith, sum_by-cons (counted_at b) w ws)) (least_in bs e ws (step bs e least w))
+      least-by (λ k. f k + counted_at k w + want_count k ws) (λ k. f k + want_count k (w ∷ ws))
+      (λ b. omega (arith, sum_by-cons (counted_at b) w ws)) (least_in bs e ws (step bs e least w))
       (least-of ws (λ k. f k + counted_at k w) (step bs e least w) s.1 s.0)
 
   pub least-counted : (ws : List Want) → IsLeast bs e (λ b. want_count b ws) (least_in bs e ws Nobody)
@@ -176,7 +183,9 @@ module _ (bs : List Block) (e : ℕ) (s : State) where
     where
       by_live : (o : Option Transaction) → attributes_at n s.transactions ≡ o → looked_at bs e n s ≡ s
       by_live None is = ap (λ (o : Option Transaction). option_map_or (admit_by bs e n s) o s) is
-      by_live (Some t) live = vain-looked_at bs e n s t live (subst (λ b. AsksInVain bs e b s) (next-found n s.transactions t live) (h (next_of s.transactions n) (omega (arith, same_number (next_of s.transactions n) (next_of s.transactions n) refl))))
+      by_live (Some t) live = vain-looked_at bs e n s t live
+          (subst (λ b. AsksInVain bs e b s) (next-found n s.transactions t live)
+          (h (next_of s.transactions n) (omega (arith, same_number (next_of s.transactions n) (next_of s.transactions n) refl))))
 
   -- where all ask in vain nobody enters
   pub vain-nobody : AllAskInVain bs e s → AdmitsNobody bs e s

@@ -29,17 +29,20 @@ resides-turned : (n : ℕ) (t : Transaction) (next : ℕ) (s : State) → Reside
 resides-turned n t next s h = resides-entered n (record t { next = t.current }) next s h
 
 pub linked-turned : (m new : Configuration) (tx : Tx) (t : Transaction) (next : ℕ)
-    → new.transactions.txs ≡ put_attributes tx.number (towards next t) m.transactions.txs → new.transactions.places ≡ m.transactions.places → new.transactions.last ≡ m.transactions.last → IsSound new.transactions
+    → new.transactions.txs ≡ put_attributes tx.number (towards next t) m.transactions.txs → new.transactions.places ≡ m.transactions.places
+    → new.transactions.last ≡ m.transactions.last → IsSound new.transactions
     → new.active ≡ m.active → new.current_events.items ≡ m.current_events.items → new.future_events.items ≡ m.future_events.items → Keeps m new
     → state_of new ≡ turn_to tx.number t next (state_of m) → attributes_at tx.number m.transactions.txs ≡ Some t → Linked m → Linked new
 linked-turned m new tx t next ts ps ls sound a cs fs k is found l =
-    linked-carried m new (carries-set m.transactions new.transactions tx.number (towards next t) ts ps (current-found m.transactions.txs tx.number t l.blocks found) (priority-found m.transactions.txs tx.number t found) ls) sound a cs fs k
+    linked-carried m new (carries-set m.transactions new.transactions tx.number (towards next t) ts ps
+    (current-found m.transactions.txs tx.number t l.blocks found) (priority-found m.transactions.txs tx.number t found) ls) sound a cs fs k
     (subst ResidesOnce (sym is) (resides-turned tx.number t next (state_of m) l.resides)) l
 
 -- WHO TURNED
 
 -- who turned is found with one next block
-pub turned-found : (n : ℕ) (t : Transaction) (next : ℕ) (s : State) → attributes_at n s.transactions ≡ Some t → attributes_at n (turn_to n t next s).transactions ≡ Some (towards next t)
+pub turned-found : (n : ℕ) (t : Transaction) (next : ℕ) (s : State) → attributes_at n s.transactions ≡ Some t
+    → attributes_at n (turn_to n t next s).transactions ≡ Some (towards next t)
 turned-found n t next s found =
     let u = bearer_at s.transactions n t found in
     attributes_of _ _ (written_at s.transactions n (towards next t) u.0 u.1)
@@ -56,5 +59,7 @@ written_twice ts n a t found =
     ∙ put-at None ts n (number_below ts n t found)
 
 -- turning back gives the state before
-pub turned-back : (n : ℕ) (t : Transaction) (next : ℕ) (s : State) → attributes_at n s.transactions ≡ Some t → turn_to n (towards next t) t.next (turn_to n t next s) ≡ s
-turned-back n t next s found = ap (λ (ts : List (Option LiveTransaction)). record s { transactions = ts }) (written_twice s.transactions n (towards next t) t found)
+pub turned-back : (n : ℕ) (t : Transaction) (next : ℕ) (s : State) → attributes_at n s.transactions ≡ Some t
+    → turn_to n (towards next t) t.next (turn_to n t next s) ≡ s
+turned-back n t next s found =
+    ap (λ (ts : List (Option LiveTransaction)). record s { transactions = ts }) (written_twice s.transactions n (towards next t) t found)

@@ -1,5 +1,6 @@
 -- What waiting, and leaving a delay list, make of a machine.
-use Rattle.std.proofs.Common.{◌≡◌, ◌≢◌, ℕ, zero, suc, ◌+◌, ◌≤◌, ◌<◌, ℤ, List, [], ◌∷◌, map, length, Option, Some, None, option_map, refl, sym, ap, ◌∙◌, subst, arith, inl, inr}
+use Rattle.std.proofs.Common.{◌≡◌, ◌≢◌, ℕ, zero, suc, ◌+◌, ◌≤◌, ◌<◌, ℤ, List, [], ◌∷◌, map, length, Option, Some, None, option_map, refl, sym, ap}
+use Rattle.std.proofs.Common.{◌∙◌, subst, arith, inl, inr}
 use Rattle.std.specs.Prelude.{int_le, slice_get, remove}
 use Rattle.std.specs.List.{AllByRecursion}
 use Rattle.std.proofs.lemmas.Bool.{cases_eq, eq-eqb, ne_eqb}
@@ -26,11 +27,13 @@ use Rattle.gw_machine.proofs.Due.{agree}
 
 module _ {T : Type 0} where
   -- a change of one list
-  pub lists-put : (number : T → ℕ) (old new : List (List T)) (e : ℕ) (f : List T → List T) → new ≡ changed e f old → map (map number) new ≡ put [] (map (map number) old) e (map number (f (at [] old e)))
+  pub lists-put : (number : T → ℕ) (old new : List (List T)) (e : ℕ) (f : List T → List T) → new ≡ changed e f old → map (map number) new
+      ≡ put [] (map (map number) old) e (map number (f (at [] old e)))
   lists-put number old new e f changes = ap (map (map number)) changes ∙ map-put (map number) [] old e (f (at [] old e))
 
   -- what holds of the members of one list and of those of each other
-  pub all_changed : (P : T → Type 0) (old new : List (List T)) (e : ℕ) (f : List T → List T) → new ≡ changed e f old → AllByRecursion P (f (at [] old e)) → (k : ℕ) → AllByRecursion P (at [] old k) → AllByRecursion P (at [] new k)
+  pub all_changed : (P : T → Type 0) (old new : List (List T)) (e : ℕ) (f : List T → List T) → new ≡ changed e f old
+      → AllByRecursion P (f (at [] old e)) → (k : ℕ) → AllByRecursion P (at [] old k) → AllByRecursion P (at [] new k)
   all_changed P old new e f changes here k other =
       elim (cases_eq k e) [
         | inl same ↦ rw (changes, same, at-put [] old e (f (at [] old e))) here
@@ -56,7 +59,8 @@ occurs-at n (x ∷ xs) zero h = let is : member_number x ≡ n = cc in omega (ar
 occurs-at n (x ∷ xs) (suc i) h = omega (arith, occurs-at n xs i h)
 
 -- who is at a place is held, with its priority
-pub ranked-at : (p : Population) (tx : Tx) (xs : List Member) (i : ℕ) → AllByRecursion (IsRanked p) xs → option_map (λ (x : Member). x.tx) (slice_get xs i) ≡ Some tx → Holds p tx
+pub ranked-at : (p : Population) (tx : Tx) (xs : List Member) (i : ℕ) → AllByRecursion (IsRanked p) xs
+    → option_map (λ (x : Member). x.tx) (slice_get xs i) ≡ Some tx → Holds p tx
 ranked-at p tx [] i h at = absurd cc
 ranked-at p tx (x ∷ xs) zero h at = let is : x.tx ≡ tx = cc in subst (Holds p) is h.0.held
 ranked-at p tx (x ∷ xs) (suc i) h at = ranked-at p tx xs i h.1 at
@@ -70,7 +74,8 @@ pub changed-here : (e : ℕ) (f : List Member → List Member) (old new : List (
 changed-here e f old new changes = ap (λ xs. at [] xs e) changes ∙ at-put [] old e (f (at [] old e))
 
 -- who leaves from a place leaves the list
-numbers-without : (n : ℕ) (xs : List Member) (i : ℕ) → option_map member_number (slice_get xs i) ≡ Some n → occurrences n (map member_number xs) ≤ 1 → map member_number (remove xs i) ≡ without n (map member_number xs)
+numbers-without : (n : ℕ) (xs : List Member) (i : ℕ) → option_map member_number (slice_get xs i) ≡ Some n
+    → occurrences n (map member_number xs) ≤ 1 → map member_number (remove xs i) ≡ without n (map member_number xs)
 numbers-without n [] i h once = absurd cc
 numbers-without n (x ∷ xs) zero h once = let is : member_number x ≡ n = cc in rw (eq-eqb (member_number x) n is) refl
 numbers-without n (x ∷ xs) (suc i) h once =
@@ -78,27 +83,38 @@ numbers-without n (x ∷ xs) (suc i) h once =
     let other : member_number x ≢ n = λ is. absurd (omega (arith, same_number (member_number x) n is, there, once)) in
     rw (ne_eqb (member_number x) n other) (ap (λ ns. member_number x ∷ ns) (numbers-without n xs i h (omega (arith, once))))
 
-module _ (m : Configuration) (l : Linked m) (e : ℕ) (below : e < length m.entities.facilities.values) (tx : Tx) (priority : ℤ) (rank : priority_of m.transactions.txs tx.number ≡ priority) where
+module _ (m : Configuration) (l : Linked m) (e : ℕ) (below : e < length m.entities.facilities.values) (tx : Tx) (priority : ℤ)
+    (rank : priority_of m.transactions.txs tx.number ≡ priority) where
   abbrev newcomer : Member
   newcomer = record { tx = tx; priority = priority }
 
-  joined-numbers : (xs : List Member) → AllByRecursion (IsRanked m.transactions) xs → map member_number (behind (λ (x : Member). x.priority) newcomer xs) ≡ behind (priority_of m.transactions.txs) tx.number (map member_number xs)
-  joined-numbers xs h = map-behind member_number (λ (x : Member). x.priority) (priority_of m.transactions.txs) newcomer xs (sym rank) (agree m.transactions xs h)
+  joined-numbers : (xs : List Member) → AllByRecursion (IsRanked m.transactions) xs
+      → map member_number (behind (λ (x : Member). x.priority) newcomer xs) ≡ behind (priority_of m.transactions.txs) tx.number (map member_number xs)
+  joined-numbers xs h = map-behind member_number (λ (x : Member). x.priority) (priority_of m.transactions.txs) newcomer xs (sym rank)
+      (agree m.transactions xs h)
 
-  joined-ranked : (xs : List Member) → Holds m.transactions tx → AllByRecursion (IsRanked m.transactions) xs → AllByRecursion (IsRanked m.transactions) (behind (λ (x : Member). x.priority) newcomer xs)
-  joined-ranked xs held h = all_placed (IsRanked m.transactions) (λ (y : Member). int_le priority y.priority) newcomer xs (record { held = held; rank = rank }) h
+  joined-ranked : (xs : List Member) → Holds m.transactions tx → AllByRecursion (IsRanked m.transactions) xs
+      → AllByRecursion (IsRanked m.transactions) (behind (λ (x : Member). x.priority) newcomer xs)
+  joined-ranked xs held h =
+      all_placed (IsRanked m.transactions) (λ (y : Member). int_le priority y.priority) newcomer xs (record { held = held; rank = rank }) h
 
   -- the active transaction waits
-  module _ (held : Holds m.transactions tx) (active : m.active ≡ Some tx) (ws : List (List Member)) (rs : List Member) (kept : rs ≡ m.waits.retry) (changes : ws ≡ changed e (behind (λ (x : Member). x.priority) newcomer) m.waits.lists) where
-    pub state-waits : record (state_of m) { lists = record (lists_of m) { active = None; delay_lists = map (map member_number) ws; retry = map member_number rs } } ≡ waits_for e tx.number (state_of m)
+  module _ (held : Holds m.transactions tx) (active : m.active ≡ Some tx) (ws : List (List Member)) (rs : List Member)
+      (kept : rs ≡ m.waits.retry) (changes : ws ≡ changed e (behind (λ (x : Member). x.priority) newcomer) m.waits.lists) where
+    pub state-waits : record (state_of m)
+        { lists = record (lists_of m) { active = None; delay_lists = map (map member_number) ws; retry = map member_number rs } }
+        ≡ waits_for e tx.number (state_of m)
     state-waits =
-        ap (λ (xs : List Member). record (state_of m) { lists = record (lists_of m) { active = None; delay_lists = map (map member_number) ws; retry = map member_number xs } }) kept
+        ap (λ (xs : List Member). record (state_of m)
+        { lists = record (lists_of m) { active = None; delay_lists = map (map member_number) ws; retry = map member_number xs } }) kept
         ∙ ap (λ (ds : List (List ℕ)). record (state_of m) { lists = record (lists_of m) { active = None; delay_lists = ds } })
         (lists-put member_number m.waits.lists ws e (behind (λ (x : Member). x.priority) newcomer) changes
         ∙ ap (put [] (map (map member_number) m.waits.lists) e)
         (joined-numbers (at [] m.waits.lists e) (l.delay_lists e below) ∙ ap (behind (priority_of m.transactions.txs) tx.number) (sym (delay_list-at m e))))
 
-    pub linked-waits : (new : Configuration) → new.transactions ≡ m.transactions → new.active ≡ None → new.current_events ≡ m.current_events → new.future_events ≡ m.future_events → new.waits.lists ≡ ws → new.waits.retry ≡ rs → new.assemblies ≡ m.assemblies → new.chains ≡ m.chains
+    pub linked-waits : (new : Configuration) → new.transactions ≡ m.transactions → new.active ≡ None → new.current_events
+        ≡ m.current_events → new.future_events ≡ m.future_events → new.waits.lists ≡ ws → new.waits.retry ≡ rs → new.assemblies
+        ≡ m.assemblies → new.chains ≡ m.chains
         → new.entities ≡ m.entities → new.clock ≡ m.clock → state_of new ≡ waits_for e tx.number (state_of m) → Linked new
     linked-waits new ts a cs fs w r assemblies chs entities clock is = record {
       active = rw a tt;
@@ -118,7 +134,8 @@ module _ (m : Configuration) (l : Linked m) (e : ℕ) (below : e < length m.enti
     }
 
   -- who is at a place of a delay list leaves it for the current events chain
-  module _ (i : ℕ) (there : option_map (λ (x : Member). x.tx) (slice_get (at [] m.waits.lists e) i) ≡ Some tx) (ws : List (List Member)) (rs : List Member) (kept : rs ≡ m.waits.retry) (changes : ws ≡ changed e (λ xs. remove xs i) m.waits.lists) where
+  module _ (i : ℕ) (there : option_map (λ (x : Member). x.tx) (slice_get (at [] m.waits.lists e) i) ≡ Some tx) (ws : List (List Member))
+      (rs : List Member) (kept : rs ≡ m.waits.retry) (changes : ws ≡ changed e (λ xs. remove xs i) m.waits.lists) where
     number-there : option_map member_number (slice_get (at [] m.waits.lists e) i) ≡ Some tx.number
     number-there = numbered (slice_get (at [] m.waits.lists e) i) there
       where
@@ -133,17 +150,31 @@ module _ (m : Configuration) (l : Linked m) (e : ℕ) (below : e < length m.enti
     once = rw (delay_list-at m e) at (waits-once tx.number (state_of m) l.resides e)
 
     pub state-called : (cs : List Member) → cs ≡ behind (λ (x : Member). x.priority) newcomer m.current_events.items
-        → record (state_of m) { lists = record (lists_of m) { current_events = map member_number cs; delay_lists = map (map member_number) ws; retry = map member_number rs } } ≡ called_from e tx.number (state_of m)
+        → record (state_of m) {
+          lists =
+              record (lists_of m) {
+                current_events = map member_number cs;
+                delay_lists = map (map member_number) ws;
+                retry =
+                    map member_number rs;
+              };
+        } ≡ called_from e tx.number (state_of m)
     state-called cs joined =
-        ap (λ (xs : List Member). record (state_of m) { lists = record (lists_of m) { current_events = map member_number cs; delay_lists = map (map member_number) ws; retry = map member_number xs } }) kept
+        ap (λ (xs : List Member). record (state_of m) {
+          lists = record (lists_of m)
+              { current_events = map member_number cs; delay_lists = map (map member_number) ws; retry = map member_number xs };
+        }) kept
         ∙ ap (λ (ns : List ℕ). record (state_of m) { lists = record (lists_of m) { current_events = ns; delay_lists = map (map member_number) ws } })
         (ap (map member_number) joined ∙ joined-numbers m.current_events.items l.current_events)
-        ∙ ap (λ (ds : List (List ℕ)). record (called_from e tx.number (state_of m)) { lists = record (called_from e tx.number (state_of m)).lists { delay_lists = ds } })
+        ∙ ap (λ (ds : List (List ℕ)). record (called_from e tx.number (state_of m))
+        { lists = record (called_from e tx.number (state_of m)).lists { delay_lists = ds } })
         (lists-put member_number m.waits.lists ws e (λ xs. remove xs i) changes
         ∙ ap (put [] (map (map member_number) m.waits.lists) e)
         (numbers-without tx.number (at [] m.waits.lists e) i number-there once ∙ ap (without tx.number) (sym (delay_list-at m e))))
 
-    pub linked-called : (new : Configuration) → Holds m.transactions tx → new.transactions ≡ m.transactions → new.active ≡ m.active → new.current_events.items ≡ behind (λ (x : Member). x.priority) newcomer m.current_events.items → new.future_events ≡ m.future_events → new.waits.lists ≡ ws → new.waits.retry ≡ rs → new.assemblies ≡ m.assemblies → new.chains ≡ m.chains
+    pub linked-called : (new : Configuration) → Holds m.transactions tx → new.transactions ≡ m.transactions → new.active ≡ m.active
+        → new.current_events.items ≡ behind (λ (x : Member). x.priority) newcomer m.current_events.items → new.future_events
+        ≡ m.future_events → new.waits.lists ≡ ws → new.waits.retry ≡ rs → new.assemblies ≡ m.assemblies → new.chains ≡ m.chains
         → new.entities ≡ m.entities → new.clock ≡ m.clock → state_of new ≡ called_from e tx.number (state_of m) → Linked new
     linked-called new held ts a cs fs w r assemblies chs entities clock is = record {
       active = rw (ts, a) l.active;
@@ -165,7 +196,8 @@ module _ (m : Configuration) (l : Linked m) (e : ℕ) (below : e < length m.enti
 -- other rooms and places of walks leave a machine as it was
 pub state-walked : (m : Configuration) (ws : Waiting) → ws.lists ≡ m.waits.lists → ws.retry ≡ m.waits.retry → state_of (record m { waits = ws }) ≡ state_of m
 state-walked m ws lists retry =
-    ap (λ (xs : List (List Member)). record (state_of m) { lists = record (lists_of m) { delay_lists = map (map member_number) xs; retry = map member_number ws.retry } }) lists
+    ap (λ (xs : List (List Member)). record (state_of m)
+    { lists = record (lists_of m) { delay_lists = map (map member_number) xs; retry = map member_number ws.retry } }) lists
     ∙ ap (λ (xs : List Member). record (state_of m) { lists = record (lists_of m) { retry = map member_number xs } }) retry
 
 pub linked-walked : (m : Configuration) → Linked m → (ws : Waiting) → ws.lists ≡ m.waits.lists → ws.retry ≡ m.waits.retry → Linked (record m { waits = ws })

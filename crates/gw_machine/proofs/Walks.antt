@@ -1,5 +1,6 @@
 -- Hand-over and admission, as the machine walks its delay lists.
-use Rattle.std.proofs.Common.{◌⊎◌, inl, inr, ◌≡◌, ℕ, zero, suc, ◌+◌, ◌^◌, ◌≤◌, ◌<◌, List, [], ◌∷◌, map, length, drop, Option, Some, None, Bool, true, false, option_map, refl, sym, ap, ◌∙◌, subst, arith}
+use Rattle.std.proofs.Common.{◌⊎◌, inl, inr, ◌≡◌, ℕ, zero, suc, ◌+◌, ◌^◌, ◌≤◌, ◌<◌, List, [], ◌∷◌, map, length, drop, Option, Some, None, Bool, true}
+use Rattle.std.proofs.Common.{false, option_map, refl, sym, ap, ◌∙◌, subst, arith}
 use Rattle.std.specs.Prelude.{slice_get, remove, sum_by}
 use Rattle.std.proofs.lemmas.List.{length-map}
 use Rattle.std.proofs.lemmas.List.Sums.{sum_by-cons}
@@ -44,7 +45,8 @@ numbered (Some x) tx h = let is : x.tx ≡ tx = cc in ap (λ (t : Tx). Some t.nu
 first-of : (bs : List Block) (f : ℕ) (s : State) (xs : List Member) (tx : Tx) → option_map handle (slice_get xs 0) ≡ Some tx
     → hand_over bs f (map member_number xs) s ≡ option_map_or (takes_over bs f tx.number s) (attributes_at tx.number s.transactions) s
 first-of bs f s [] tx h = absurd cc
-first-of bs f s (x ∷ xs) tx h = let is : x.tx ≡ tx = cc in ap (λ (t : Tx). option_map_or (takes_over bs f t.number s) (attributes_at t.number s.transactions) s) is
+first-of bs f s (x ∷ xs) tx h = let is : x.tx ≡ tx = cc in
+    ap (λ (t : Tx). option_map_or (takes_over bs f t.number s) (attributes_at t.number s.transactions) s) is
 
 none-of : (bs : List Block) (f : ℕ) (s : State) (xs : List Member) → option_map handle (slice_get xs 0) ≡ None → hand_over bs f (map member_number xs) s ≡ s
 none-of bs f s [] h = refl
@@ -52,7 +54,8 @@ none-of bs f s (x ∷ xs) h = absurd cc
 
 module _ (bs : List Block) (m : Configuration) (e : ℕ) (below : e < length m.entities.facilities.values) where
   pub handed-first : (tx : Tx) → option_map handle (slice_get (at [] m.waits.lists e) 0) ≡ Some tx
-      → hand_over bs e (delay_list e (state_of m)) (state_of m) ≡ option_map_or (takes_over bs e tx.number (state_of m)) (attributes_at tx.number m.transactions.txs) (state_of m)
+      → hand_over bs e (delay_list e (state_of m)) (state_of m)
+      ≡ option_map_or (takes_over bs e tx.number (state_of m)) (attributes_at tx.number m.transactions.txs) (state_of m)
   handed-first tx h = ap (λ ns. hand_over bs e ns (state_of m)) (delay_list-at m e) ∙ first-of bs e (state_of m) (at [] m.waits.lists e) tx h
 
   pub handed-none : option_map handle (slice_get (at [] m.waits.lists e) 0) ≡ None → hand_over bs e (delay_list e (state_of m)) (state_of m) ≡ state_of m
@@ -61,11 +64,13 @@ module _ (bs : List Block) (m : Configuration) (e : ℕ) (below : e < length m.e
   pub steady-looked_at : (k : ℕ) → IsSteady bs k m → (i : ℕ) (tx : Tx) → option_map handle (slice_get (at [] m.waits.lists e) i) ≡ Some tx
       → (new : Configuration) → state_of new ≡ looked_at bs e tx.number (state_of m) → new.entities.facilities ≡ m.entities.facilities → IsSteady bs k new
   steady-looked_at k s i tx there new is fac =
-      let waits : 1 ≤ occurrences tx.number (delay_list e (state_of m)) = rw (delay_list-at m e) (occurs-at tx.number (at [] m.waits.lists e) i (numbered (slice_get (at [] m.waits.lists e) i) tx there)) in
+      let waits : 1 ≤ occurrences tx.number (delay_list e (state_of m)) =
+      rw (delay_list-at m e) (occurs-at tx.number (at [] m.waits.lists e) i (numbered (slice_get (at [] m.waits.lists e) i) tx there)) in
       record {
         fit = rw fac s.fit;
         within = subst (λ (n : ℕ). IsWithin (length bs) n k (made_in k) (state_of new)) (sym (ap (λ (f : ByNumber Facility). length f.values) fac))
-            (subst (λ (t : State). IsWithin (length bs) (length m.entities.facilities.values) k (made_in k) t) (sym is) (within-looked_at bs (length m.entities.facilities.values) k (made_in k) s.fit (state_of m) s.within e tx.number waits));
+            (subst (λ (t : State). IsWithin (length bs) (length m.entities.facilities.values) k (made_in k) t) (sym is)
+            (within-looked_at bs (length m.entities.facilities.values) k (made_in k) s.fit (state_of m) s.within e tx.number waits));
         few = s.few;
       }
 
@@ -77,19 +82,22 @@ length-one (x ∷ xs) (suc e) = omega (arith, sum_by-cons length x xs, length-on
 
 pub few-wait : (bs : List Block) (k : ℕ) (m : Configuration) → IsSteady bs k m → (e : ℕ) → length (at [] m.waits.lists e) ≤ 2 ^ 41
 few-wait bs k m s e =
-    let here : length (delay_list e (state_of m)) ≡ length (at [] m.waits.lists e) = ap length (delay_list-at m e) ∙ length-map (at [] m.waits.lists e) member_number in
+    let here : length (delay_list e (state_of m)) ≡ length (at [] m.waits.lists e) = ap length (delay_list-at m e)
+    ∙ length-map (at [] m.waits.lists e) member_number in
     omega (arith, here, length-one (state_of m).lists.delay_lists e, s.within.entries, s.few)
 
 -- THE WALK
 
-drop-at : (xs : List Member) (i : ℕ) (tx : Tx) → option_map handle (slice_get xs i) ≡ Some tx → drop i (map member_number xs) ≡ tx.number ∷ drop (i + 1) (map member_number xs)
+drop-at : (xs : List Member) (i : ℕ) (tx : Tx) → option_map handle (slice_get xs i) ≡ Some tx → drop i (map member_number xs) ≡ tx.number
+    ∷ drop (i + 1) (map member_number xs)
 drop-at [] i tx h = absurd cc
 drop-at (x ∷ xs) zero tx h = let is : x.tx ≡ tx = cc in ap (λ (t : Tx). t.number ∷ map member_number xs) is
 drop-at (x ∷ xs) (suc i) tx h =
     let e : suc i + 1 ≡ suc (i + 1) = omega arith in
     drop-at xs i tx h ∙ ap (λ k. tx.number ∷ drop k (map member_number (x ∷ xs))) (sym e)
 
-drop-removed : (xs : List Member) (i : ℕ) (tx : Tx) → option_map handle (slice_get xs i) ≡ Some tx → drop i (map member_number (remove xs i)) ≡ drop (i + 1) (map member_number xs)
+drop-removed : (xs : List Member) (i : ℕ) (tx : Tx) → option_map handle (slice_get xs i) ≡ Some tx
+    → drop i (map member_number (remove xs i)) ≡ drop (i + 1) (map member_number xs)
 drop-removed [] i tx h = absurd cc
 drop-removed (x ∷ xs) zero tx h = refl
 drop-removed (x ∷ xs) (suc i) tx h =
@@ -124,11 +132,13 @@ pub walk-first : (bs : List Block) (e : ℕ) (m : Configuration) → rest_of_wal
 walk-first bs e m = ap (λ ns. admission bs e ns (state_of m)) (sym (delay_list-at m e))
 
 -- the walk has come to its end
-walk-last : (bs : List Block) (e i : ℕ) (m : Configuration) → option_map handle (slice_get (at [] m.waits.lists e) i) ≡ None → rest_of_walk bs e i m ≡ state_of m
+walk-last : (bs : List Block) (e i : ℕ) (m : Configuration) → option_map handle (slice_get (at [] m.waits.lists e) i) ≡ None
+    → rest_of_walk bs e i m ≡ state_of m
 walk-last bs e i m h = ap (λ ns. admission bs e ns (state_of m)) (dropped-all (at [] m.waits.lists e) i h) ∙ admission-none bs e (state_of m)
 
 -- where nothing but the place of the walk and the rooms change, the same is left of it
-pub walk-same : (bs : List Block) (e i : ℕ) (m new : Configuration) → new.waits.lists ≡ m.waits.lists → state_of new ≡ state_of m → rest_of_walk bs e i new ≡ rest_of_walk bs e i m
+pub walk-same : (bs : List Block) (e i : ℕ) (m new : Configuration) → new.waits.lists ≡ m.waits.lists → state_of new ≡ state_of m
+    → rest_of_walk bs e i new ≡ rest_of_walk bs e i m
 walk-same bs e i m new lists is =
     ap (λ (xs : List (List Member)). admission bs e (drop i (map member_number (at [] xs e))) (state_of new)) lists
     ∙ ap (admission bs e (drop i (map member_number (at [] m.waits.lists e)))) is
@@ -136,7 +146,8 @@ walk-same bs e i m new lists is =
 -- where no unit is free, nobody else enters
 full-asks : (n : ℕ) (t : Transaction) (s : State) (u : Units) → is_full (storage u.entity s) ≡ true → 0 < u.number → enters_if_free n t s u ≡ s
 full-asks n t s u full some =
-    choose (λ x. x ≡ s) (has_room u.number (storage u.entity s)) (put_storage u.entity (with_entries u.number (storage u.entity s)) (enters_and_falls n t (called_from u.entity n s))) s
+    choose (λ x. x ≡ s) (has_room u.number (storage u.entity s))
+    (put_storage u.entity (with_entries u.number (storage u.entity s)) (enters_and_falls n t (called_from u.entity n s))) s
     (λ free. absurd (omega (arith, leb-true _ _ full, leb-true _ _ free, some)))
     (λ none. refl)
 
@@ -160,7 +171,8 @@ full-admission bs es e (n ∷ ns) s fit full =
 vain-enters : (n : ℕ) (t : Transaction) (s : State) (u : Units) → has_room u.number (storage u.entity s) ≡ false → enters_if_free n t s u ≡ s
 vain-enters n t s u none = rw none refl
 
-pub vain-looked_at : (bs : List Block) (e n : ℕ) (s : State) (t : Transaction) → attributes_at n s.transactions ≡ Some t → AsksInVain bs e t.next s → looked_at bs e n s ≡ s
+pub vain-looked_at : (bs : List Block) (e n : ℕ) (s : State) (t : Transaction) → attributes_at n s.transactions ≡ Some t
+    → AsksInVain bs e t.next s → looked_at bs e n s ≡ s
 vain-looked_at bs e n s t live vain =
     ap (λ o. option_map_or (admit_by bs e n s) o s) live
     ∙ by_option (λ x. x ≡ s) (units_asked e (block_at bs t.next)) (enters_if_free n t s) s (λ u is. vain-enters n t s u (vain u is)) (λ none. refl)
@@ -170,12 +182,14 @@ pub vain-first : (bs : List Block) (e n : ℕ) (ns : List ℕ) (s : State) → l
 vain-first bs e n ns s stays rest = admission-more bs e n ns s ∙ ap (admission bs e ns) stays ∙ rest
 
 -- the walk has come to its end, or may end since no unit is free
-pub walk-ends : (bs : List Block) (es e i : ℕ) (m : Configuration) → BlocksFit es bs → (option_map handle (slice_get (at [] m.waits.lists e) i) ≡ None) ⊎ (is_full (storage e (state_of m)) ≡ true) → rest_of_walk bs e i m ≡ state_of m
+pub walk-ends : (bs : List Block) (es e i : ℕ) (m : Configuration) → BlocksFit es bs
+    → (option_map handle (slice_get (at [] m.waits.lists e) i) ≡ None) ⊎ (is_full (storage e (state_of m)) ≡ true) → rest_of_walk bs e i m ≡ state_of m
 walk-ends bs es e i m fit (inl none) = walk-last bs e i m none
 walk-ends bs es e i m fit (inr full) = full-admission bs es e (drop i (map member_number (at [] m.waits.lists e))) (state_of m) fit full
 
 -- one waiter was looked at: it left its place, or the walk goes on behind it
-pub walk-on : (bs : List Block) (e i : ℕ) (m new : Configuration) (tx : Tx) (moved : Bool) → option_map handle (slice_get (at [] m.waits.lists e) i) ≡ Some tx → state_of new ≡ looked_at bs e tx.number (state_of m) → Moves moved e i m new
+pub walk-on : (bs : List Block) (e i : ℕ) (m new : Configuration) (tx : Tx) (moved : Bool)
+    → option_map handle (slice_get (at [] m.waits.lists e) i) ≡ Some tx → state_of new ≡ looked_at bs e tx.number (state_of m) → Moves moved e i m new
     → rest_of_walk bs e (elim moved [ true ↦ i | false ↦ i + 1 ]) new ≡ rest_of_walk bs e i m
 walk-on bs e i m new tx true there is moves =
     let xs = at [] m.waits.lists e in
@@ -189,8 +203,10 @@ walk-on bs e i m new tx false there is moves =
     ∙ ap (admission bs e (drop (i + 1) (map member_number xs))) is
     ∙ sym (ap (λ ns. admission bs e ns (state_of m)) (drop-at xs i tx there) ∙ admission-more bs e tx.number (drop (i + 1) (map member_number xs)) (state_of m))
 
-pub left-moved : (e i : ℕ) (m new : Configuration) (tx : Tx) → option_map handle (slice_get (at [] m.waits.lists e) i) ≡ Some tx → Moves true e i m new → length (at [] new.waits.lists e) + 1 ≡ length (at [] m.waits.lists e)
+pub left-moved : (e i : ℕ) (m new : Configuration) (tx : Tx) → option_map handle (slice_get (at [] m.waits.lists e) i) ≡ Some tx
+    → Moves true e i m new → length (at [] new.waits.lists e) + 1 ≡ length (at [] m.waits.lists e)
 left-moved e i m new tx there moves = ap (λ (xs : List Member). length xs + 1) moves.0 ∙ length-remove (at [] m.waits.lists e) i tx there
 
-pub left-place : (e i : ℕ) (m : Configuration) (tx : Tx) → option_map handle (slice_get (at [] m.waits.lists e) i) ≡ Some tx → i < length (at [] m.waits.lists e)
+pub left-place : (e i : ℕ) (m : Configuration) (tx : Tx) → option_map handle (slice_get (at [] m.waits.lists e) i) ≡ Some tx → i
+    < length (at [] m.waits.lists e)
 left-place e i m tx there = place-within (at [] m.waits.lists e) i tx there

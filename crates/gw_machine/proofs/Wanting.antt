@@ -1,5 +1,6 @@
 -- The wants of one list, of which one is written.
-use Rattle.std.proofs.Common.{◌⊎◌, inl, inr, ◌≡◌, ℕ, zero, suc, ◌+◌, ◌≤◌, ◌<◌, ◌==◌, if◌then◌else◌, Bool, true, false, List, [], ◌∷◌, ◌++◌, length, map, get_or, refl, sym, ap, ◌∙◌, subst, arith}
+use Rattle.std.proofs.Common.{◌⊎◌, inl, inr, ◌≡◌, ℕ, zero, suc, ◌+◌, ◌≤◌, ◌<◌, ◌==◌, if◌then◌else◌, Bool, true, false, List, [], ◌∷◌, ◌++◌, length}
+use Rattle.std.proofs.Common.{map, get_or, refl, sym, ap, ◌∙◌, subst, arith}
 use Rattle.std.specs.Prelude.{slice_set}
 use Rattle.std.proofs.lemmas.Bool.{cases_eq, eq-eqb}
 use Rattle.gw_num.specs.Table.{at, put}
@@ -46,7 +47,9 @@ module _ (ws : List Want) (i : ℕ) (v : Want) (block entries : ℕ) where
   written-wanting : (b : ℕ) → want_count b new + counted_at b was ≡ want_count b ws + counted_at b v
   written-wanting b = sum_by-put nobody (counted_at b) ws i v (none-counted b)
 
-  pub newcomer-counted : v.block ≡ block → v.waiting ≡ was.waiting + 1 → ((v.entries ≡ entries) ⊎ ((v.entries ≡ was.entries) × (was.block ≡ block))) → (0 < was.waiting → (was.block ≡ block) × (v.entries ≡ was.entries)) → CountsNewcomer block entries ws new
+  pub newcomer-counted : v.block ≡ block → v.waiting ≡ was.waiting + 1
+      → ((v.entries ≡ entries) ⊎ ((v.entries ≡ was.entries) × (was.block ≡ block)))
+      → (0 < was.waiting → (was.block ≡ block) × (v.entries ≡ was.entries)) → CountsNewcomer block entries ws new
   newcomer-counted here more kept same = record {
     wanting = λ b.
         let before = counts was block b (λ some. (same some).0) in
@@ -69,11 +72,13 @@ module _ (ws : List Want) (i : ℕ) (v : Want) (block entries : ℕ) where
         (λ j other. past j);
   }
     where
-      risen : (b : ℕ) (c : Bool) → counted_at b was ≡ (if c then was.waiting else 0) → counted_at b v ≡ (if c then v.waiting else 0) → want_count b new ≡ want_count b ws + (if c then 1 else 0)
+      risen : (b : ℕ) (c : Bool) → counted_at b was ≡ (if c then was.waiting else 0) → counted_at b v ≡ (if c then v.waiting else 0)
+          → want_count b new ≡ want_count b ws + (if c then 1 else 0)
       risen b true before after = omega (arith, written-wanting b, before, after, more)
       risen b false before after = omega (arith, written-wanting b, before, after)
 
-  pub leaver-counted : IsAt block 1 i ws → was.entries ≡ entries → v.block ≡ was.block → v.entries ≡ was.entries → v.waiting + 1 ≡ was.waiting → CountsLeaver block entries ws new
+  pub leaver-counted : IsAt block 1 i ws → was.entries ≡ entries → v.block ≡ was.block → v.entries ≡ was.entries → v.waiting + 1
+      ≡ was.waiting → CountsLeaver block entries ws new
   leaver-counted there is_told blocks kept fewer = record {
     wanting = λ b. fallen b (block == b) (counts was block b (λ some. there.block)) (counts v block b (λ some. blocks ∙ there.block));
     told = λ es is told j.
@@ -87,7 +92,8 @@ module _ (ws : List Want) (i : ℕ) (v : Want) (block entries : ℕ) where
         (λ j other. past j);
   }
     where
-      fallen : (b : ℕ) (c : Bool) → counted_at b was ≡ (if c then was.waiting else 0) → counted_at b v ≡ (if c then v.waiting else 0) → want_count b new + (if c then 1 else 0) ≡ want_count b ws
+      fallen : (b : ℕ) (c : Bool) → counted_at b was ≡ (if c then was.waiting else 0) → counted_at b v ≡ (if c then v.waiting else 0)
+          → want_count b new + (if c then 1 else 0) ≡ want_count b ws
       fallen b true before after = omega (arith, written-wanting b, before, after, fewer)
       fallen b false before after = omega (arith, written-wanting b, before, after)
 
@@ -102,7 +108,8 @@ risen-at es block b = elim (cases_eq b block) [
 -- a want that is told of all entries after one more was told of all before it, and has another block
 told_before : (es : List ℕ) (block : ℕ) (w : Want) → w.entries ≤ at 0 es w.block → IsTold (with_one_more_at block es) w → IsTold es w
 told_before es block w past told some = elim (cases_eq w.block block) [
-  | inl same ↦ absurd (omega (arith, past, told some, ap (λ k. at 0 (with_one_more_at block es) k) same, at-put 0 es block (at 0 es block + 1), ap (at 0 es) same))
+  | inl same ↦ absurd (omega
+      (arith, past, told some, ap (λ k. at 0 (with_one_more_at block es) k) same, at-put 0 es block (at 0 es block + 1), ap (at 0 es) same))
   | inr other ↦ told some ∙ at-put_other 0 es block w.block (at 0 es block + 1) other
 ]
 
@@ -116,7 +123,8 @@ entry-untold ws block entries = record {
 }
 
 module _ (ws : List Want) (i : ℕ) (v : Want) (block entries : ℕ) where
-  pub entry-told : IsAt block 1 i ws → (at nobody ws i).entries ≡ entries → v.block ≡ (at nobody ws i).block → v.waiting ≡ (at nobody ws i).waiting → v.entries ≡ entries + 1 → CountsEntry block entries ws (put nobody ws i v)
+  pub entry-told : IsAt block 1 i ws → (at nobody ws i).entries ≡ entries → v.block ≡ (at nobody ws i).block → v.waiting
+      ≡ (at nobody ws i).waiting → v.entries ≡ entries + 1 → CountsEntry block entries ws (put nobody ws i v)
   entry-told there was_told blocks same told_now = record {
     many = length-put nobody ws i v there.within;
     wanting = λ b.
@@ -126,7 +134,8 @@ module _ (ws : List Want) (i : ℕ) (v : Want) (block entries : ℕ) where
     told = λ es is past told j.
         elim (cases_eq j i) [
           | inl at_i ↦ subst (λ k. IsTold es (at nobody ws k)) (sym at_i) (λ some. was_told ∙ sym is ∙ ap (at 0 es) (sym there.block))
-          | inr other ↦ told_before es block (at nobody ws j) (past j) (subst (IsTold (with_one_more_at block es)) (at-put_other nobody ws i j v other) (told j))
+          | inr other ↦ told_before es block (at nobody ws j) (past j)
+              (subst (IsTold (with_one_more_at block es)) (at-put_other nobody ws i j v other) (told j))
         ];
     past = λ es is past.
         by_entry nobody ws i v (λ j w. w.entries ≤ at 0 (with_one_more_at block es) w.block)
@@ -134,7 +143,8 @@ module _ (ws : List Want) (i : ℕ) (v : Want) (block entries : ℕ) where
         (λ j other. omega (arith, past j, risen-at es block (at nobody ws j).block));
   }
     where
-      kept : (b : ℕ) (c : Bool) → counted_at b (at nobody ws i) ≡ (if c then (at nobody ws i).waiting else 0) → counted_at b v ≡ (if c then v.waiting else 0) → want_count b (put nobody ws i v) ≡ want_count b ws
+      kept : (b : ℕ) (c : Bool) → counted_at b (at nobody ws i) ≡ (if c then (at nobody ws i).waiting else 0) → counted_at b v
+          ≡ (if c then v.waiting else 0) → want_count b (put nobody ws i v) ≡ want_count b ws
       kept b true before after = omega (arith, sum_by-put nobody (counted_at b) ws i v (none-counted b), before, after, same)
       kept b false before after = omega (arith, sum_by-put nobody (counted_at b) ws i v (none-counted b), before, after)
 

@@ -1,5 +1,6 @@
 -- The lists of several entities: a call on the list of one entity, as all lists show it.
-use Rattle.std.proofs.Common.{◌≡◌, ℕ, zero, suc, ◌+◌, ◌<◌, ◌≤◌, List, [], ◌∷◌, map, length, get_or, set, sum_by, refl, sym, ap, ◌∙◌, subst, arith, ◌++◌, replicate, inl, inr, drop, Option, Some, None, Result, Ok, Err}
+use Rattle.std.proofs.Common.{◌≡◌, ℕ, zero, suc, ◌+◌, ◌<◌, ◌≤◌, List, [], ◌∷◌, map, length, get_or, set, sum_by, refl, sym, ap, ◌∙◌, subst, arith}
+use Rattle.std.proofs.Common.{◌++◌, replicate, inl, inr, drop, Option, Some, None, Result, Ok, Err}
 use Rattle.std.specs.Prelude.{OnOk, OnErr, option_to_list}
 use Rattle.std.proofs.lemmas.Bool.{cases_eq}
 use Rattle.std.proofs.lemmas.List.{length-map}
@@ -60,7 +61,8 @@ module _ {X T : Type 0} (f : X → List T) where
       omega (arith, sums, ap length (here f [] xs e x s))
 
 -- a call on the list of one entity of those that are shown
-module _ {X T : Type 0} (f : X → List T) (xs : List X) (shown : List (List T)) (e : ℕ) (x v : X) (is : map f xs ≡ shown) (within : e < length shown) (here : x ≡ get_or xs e x) where
+module _ {X T : Type 0} (f : X → List T) (xs : List X) (shown : List (List T)) (e : ℕ) (x v : X) (is : map f xs ≡ shown)
+    (within : e < length shown) (here : x ≡ get_or xs e x) where
   -- it leaves the members as they were
   pub all_kept : f v ≡ f x → map f (set xs e v) ≡ shown
   all_kept same = unchanged f [] xs e x v (stands f [] xs shown e x is within here) same ∙ is

@@ -27,5 +27,6 @@ found_by_reading bytes statements (Ok j) read h = record { statements = statemen
 found_by_reading bytes statements (Err none) read h = refused_by_reading bytes statements none read h
 
 -- a refusal of the text is one
-pub refused_text : (bytes : List ℕ) (none : NoJob) (fault : Fault) → OnRefusal none (λ said. said ≡ fault) → IsRefusedText bytes fault → OnRefusal none (IsRefusalOf bytes)
+pub refused_text : (bytes : List ℕ) (none : NoJob) (fault : Fault) → OnRefusal none (λ said. said ≡ fault) → IsRefusedText bytes fault
+    → OnRefusal none (IsRefusalOf bytes)
 refused_text bytes none fault is h = refusal_told none fault (IsRefusalOf bytes) is (inl h)

@@ -4,12 +4,15 @@ use Rattle.std.specs.Prelude.{string_bytes}
 use Rattle.std.specs.declared.string.String.{String}
 use Rattle.std.specs.List.{flat_map}
 use mathlib.Core.Former.{Count}
-use Rattle.gw_text_expressions.specs.declared.model.Expression.{Expression, Call, Row_of-Expression, end_of-Expression, more_of-Expression, items-the_row-Expression, items_hidden-the_row-Expression-0}
-use Rattle.gw_text_plus.specs.declared.model.PlusStatement.{PlusStatement, Block, Block', Row_of-PlusStatement, end_of-PlusStatement, more_of-PlusStatement, items-the_row-PlusStatement, items_hidden-the_row-PlusStatement-0}
+use Rattle.gw_text_expressions.specs.declared.model.Expression.{Expression, Call, Row_of-Expression, end_of-Expression, more_of-Expression}
+use Rattle.gw_text_expressions.specs.declared.model.Expression.{items-the_row-Expression, items_hidden-the_row-Expression-0}
+use Rattle.gw_text_plus.specs.declared.model.PlusStatement.{PlusStatement, Block, Block', Row_of-PlusStatement, end_of-PlusStatement}
+use Rattle.gw_text_plus.specs.declared.model.PlusStatement.{more_of-PlusStatement, items-the_row-PlusStatement, items_hidden-the_row-PlusStatement-0}
 use Rattle.gw_compile.specs.Numbers.{Scope}
 use Rattle.gw_compile.specs.Unknown.{count}
 use Rattle.gw_compile.proofs.Rows.{count_is, row_of}
-use Rattle.gw_name_uses.specs.Mentions.{Call as Calls, in_expression, in_arguments, in_plus, in_block, in_sequence, scope_after, scope_after_block, scope_after_sequence}
+use Rattle.gw_name_uses.specs.Mentions.{Call as Calls, in_expression, in_arguments, in_plus, in_block, in_sequence, scope_after, scope_after_block}
+use Rattle.gw_name_uses.specs.Mentions.{scope_after_sequence}
 
 -- ARGUMENTS
 
@@ -18,7 +21,8 @@ arguments_are scope m end_of-Expression = refl
 arguments_are scope m (more_of-Expression e es) = ap (λ l. in_expression scope e ++ l) (arguments_are scope _ es)
 
 -- what a call uses, by its arguments as they lie in memory
-pub in_call : (scope : Scope) (name : String Global) (arguments : Vec Expression Global) → in_expression scope (Call name arguments) ≡ flat_map (in_expression scope) arguments.items ++ Calls (string_bytes name) (length arguments.items) ∷ []
+pub in_call : (scope : Scope) (name : String Global) (arguments : Vec Expression Global) → in_expression scope (Call name arguments)
+    ≡ flat_map (in_expression scope) arguments.items ++ Calls (string_bytes name) (length arguments.items) ∷ []
 in_call scope name arguments =
     let row = row_of (Call name arguments) in
     let same = items_hidden-the_row-Expression-0 arguments in

@@ -11,7 +11,8 @@ use Rattle.gw_text_expressions.specs.declared.model.Sna.{Sna}
 use Rattle.gw_text_expressions.specs.declared.model.Sna.TheVariants as snas
 use Rattle.gw_text_expressions.specs.declared.model.BlockName.TheVariants as block_names
 use Rattle.gw_text_expressions.specs.declared.model.Parameter.TheVariants as parameters
-use Rattle.gw_text_plus.specs.declared.model.PlusStatement.{PlusStatement, Row_of-PlusStatement, end_of-PlusStatement, more_of-PlusStatement, Held-PlusStatement-If-2, None', Some'}
+use Rattle.gw_text_plus.specs.declared.model.PlusStatement.{PlusStatement, Row_of-PlusStatement, end_of-PlusStatement, more_of-PlusStatement}
+use Rattle.gw_text_plus.specs.declared.model.PlusStatement.{Held-PlusStatement-If-2, None', Some'}
 use Rattle.gw_text_plus.specs.declared.model.PlusStatement.TheVariants.{Block', Temporary, Assign, If', While', Return}
 use Rattle.gw_text_plus.specs.declared.model.Procedure.{Procedure}
 use Rattle.gw_compile.specs.Numbers.{Scope}

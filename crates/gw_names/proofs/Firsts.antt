@@ -25,7 +25,8 @@ pushed_is : (x y one : Noted) (ns : List Noted) (k : ℕ) → slice_get (x ∷ n
 pushed_is x y one ns zero is = is
 pushed_is x y one ns (suc k) is = is
 
-first_by : (x y one : Noted) (ns : List Noted) (b : Bool) → is_before y x ≡ b → with_notes (if b then Some y else Some x) ns ≡ Some one → (with_notes (Some y) ns ≡ Some one → IsFirst one (y ∷ ns)) → (with_notes (Some x) ns ≡ Some one → IsFirst one (x ∷ ns)) → IsFirst one (x ∷ y ∷ ns)
+first_by : (x y one : Noted) (ns : List Noted) (b : Bool) → is_before y x ≡ b → with_notes (if b then Some y else Some x) ns ≡ Some one
+    → (with_notes (Some y) ns ≡ Some one → IsFirst one (y ∷ ns)) → (with_notes (Some x) ns ≡ Some one → IsFirst one (x ∷ ns)) → IsFirst one (x ∷ y ∷ ns)
 first_by x y one ns true before is later stays =
     let f = later is in
     let own = follows one y x (All-head (λ (other : Noted). is_before other one ≡ false) y ns f.first) (goes_behind y x before) in
@@ -41,7 +42,8 @@ first_by x y one ns false before is later stays =
     record {
       place = pushed f.place;
       among = pushed_is x y one ns f.place f.among;
-      first = All-cons (λ (other : Noted). is_before other one ≡ false) x (y ∷ ns) own (All-cons (λ (other : Noted). is_before other one ≡ false) y ns (follows one x y own before) others);
+      first = All-cons (λ (other : Noted). is_before other one ≡ false) x (y ∷ ns) own
+          (All-cons (λ (other : Noted). is_before other one ≡ false) y ns (follows one x y own before) others);
     }
 
 first_of_more : (x one : Noted) (ns : List Noted) → with_notes (Some x) ns ≡ Some one → IsFirst one (x ∷ ns)
@@ -50,7 +52,8 @@ first_of_more x one [] is =
     record {
       place = zero;
       among = is;
-      first = All-cons (λ (other : Noted). is_before other one ≡ false) x [] (subst (λ a. is_before x a ≡ false) same (not_itself x)) (All-nil (λ (other : Noted). is_before other one ≡ false));
+      first = All-cons (λ (other : Noted). is_before other one ≡ false) x [] (subst (λ a. is_before x a ≡ false) same (not_itself x))
+          (All-nil (λ (other : Noted). is_before other one ≡ false));
     }
 first_of_more x one (y ∷ ns) is = first_by x y one ns (is_before y x) refl is (first_of_more y one ns) (first_of_more x one ns)
 

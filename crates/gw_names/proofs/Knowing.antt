@@ -19,7 +19,11 @@ use Rattle.gw_names.proofs.Noting.{notes_append}
 
 module _ (statements : List Statement) (ms : List Mentioned) (is : ms ≡ mentioned_in statements) where
   -- entities and parameters
-  pub uses_known : (known : Known) → IsSighted known.declarations known.entities known.sighted.items → keys_of known.sighted.items ≡ seen_after entity_in is_same most_entities [] ms → ((kind : EntityKind) (name : List ℕ) → entity_of known.declarations kind name ≡ declaration_of statements (key kind name)) → HaveNumbers (free_numbers ms) known.parameters → names_of known.parameters ≡ seen_after parameter_in bytes_eq (length (free_numbers ms)) [] ms → KnowsUses statements known
+  pub uses_known : (known : Known) → IsSighted known.declarations known.entities known.sighted.items → keys_of known.sighted.items
+      ≡ seen_after entity_in is_same most_entities [] ms
+      → ((kind : EntityKind) (name : List ℕ) → entity_of known.declarations kind name ≡ declaration_of statements (key kind name))
+      → HaveNumbers (free_numbers ms) known.parameters → names_of known.parameters
+      ≡ seen_after parameter_in bytes_eq (length (free_numbers ms)) [] ms → KnowsUses statements known
   uses_known known sighted keys declares given names =
       let seen = keys ∙ ap (seen_after entity_in is_same most_entities []) is in
       let same : (λ (k : Key). entity_of known.declarations k.kind k.name) ≡ declaration_of statements = λ j k. declares k.kind k.name j in
@@ -31,11 +35,14 @@ module _ (statements : List Statement) (ms : List Mentioned) (is : ms ≡ mentio
         parameter = λ name.
             given name
             ∙ ap (λ l. option_and_then (slice_get (free_numbers ms)) (position_from (bytes_eq name) 0 l)) names
-            ∙ ap (λ l. option_and_then (slice_get (free_numbers l)) (position_from (bytes_eq name) 0 (seen_after parameter_in bytes_eq (length (free_numbers l)) [] l))) is;
+            ∙ ap (λ l. option_and_then (slice_get (free_numbers l))
+            (position_from (bytes_eq name) 0 (seen_after parameter_in bytes_eq (length (free_numbers l)) [] l))) is;
       }
 
   -- and the refusals
-  pub limits_noted : (before between after : Option Noted) → between ≡ with_notes before (limits_after entity_in is_same most_entities [] ms) → after ≡ with_notes between (limits_after parameter_in bytes_eq (length (free_numbers ms)) [] ms) → after ≡ with_notes before (limits_in statements)
+  pub limits_noted : (before between after : Option Noted) → between
+      ≡ with_notes before (limits_after entity_in is_same most_entities [] ms) → after
+      ≡ with_notes between (limits_after parameter_in bytes_eq (length (free_numbers ms)) [] ms) → after ≡ with_notes before (limits_in statements)
   limits_noted before between after first second =
       second
       ∙ ap (λ least. with_notes least (limits_after parameter_in bytes_eq (length (free_numbers ms)) [] ms)) first

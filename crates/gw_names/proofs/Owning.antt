@@ -1,5 +1,6 @@
 -- Numbers that are nobody else's.
-use Rattle.std.proofs.Common.{◌≡◌, ℕ, zero, suc, ◌+◌, ◌≤◌, ◌⊎◌, inl, inr, List, [], ◌∷◌, ◌++◌, length, cond, Option, Some, None, Bool, true, false, ◌&&◌, refl, sym, ap, subst, ◌∙◌, arith}
+use Rattle.std.proofs.Common.{◌≡◌, ℕ, zero, suc, ◌+◌, ◌≤◌, ◌⊎◌, inl, inr, List, [], ◌∷◌, ◌++◌, length, cond, Option, Some, None, Bool, true, false}
+use Rattle.std.proofs.Common.{◌&&◌, refl, sym, ap, subst, ◌∙◌, arith}
 use Rattle.std.specs.Prelude.{slice_get, option_and_then}
 use Rattle.std.specs.List.{position_from}
 use Rattle.std.specs.Str.{bytes_eq}
@@ -32,7 +33,8 @@ record Passes {A : Type 0} (t : A → Bool) (k : ℕ) (xs : List A) (i : ℕ) : 
   there : slice_get xs at ≡ Some who
   is : t who ≡ true
 
-passes_by : {A : Type 0} (t : A → Bool) (k : ℕ) (x : A) (xs : List A) (i : ℕ) (b : Bool) → t x ≡ b → cond b (Some k) (position_from t (k + 1) xs) ≡ Some i → (position_from t (k + 1) xs ≡ Some i → Passes t (k + 1) xs i) → Passes t k (x ∷ xs) i
+passes_by : {A : Type 0} (t : A → Bool) (k : ℕ) (x : A) (xs : List A) (i : ℕ) (b : Bool) → t x ≡ b
+    → cond b (Some k) (position_from t (k + 1) xs) ≡ Some i → (position_from t (k + 1) xs ≡ Some i → Passes t (k + 1) xs i) → Passes t k (x ∷ xs) i
 passes_by t k x xs i true own is more =
     let e : k ≡ i = cc in
     record { at = zero; far = omega arith; who = x; there = refl; is = own }
@@ -45,7 +47,8 @@ passes t k [] i is = absurd (cc)
 passes t k (x ∷ xs) i is = passes_by t k x xs i (t x) refl is (passes t (k + 1) xs i)
 
 -- two that are found at one place pass with the same
-both_pass : {A : Type 0} (t u : A → Bool) (xs : List A) (i : ℕ) → position_from t 0 xs ≡ Some i → position_from u 0 xs ≡ Some i → (x : A) × (t x ≡ true) × (u x ≡ true)
+both_pass : {A : Type 0} (t u : A → Bool) (xs : List A) (i : ℕ) → position_from t 0 xs ≡ Some i → position_from u 0 xs ≡ Some i → (x : A)
+    × (t x ≡ true) × (u x ≡ true)
 both_pass t u xs i first second =
     let p = passes t 0 xs i first in
     let q = passes u 0 xs i second in
@@ -63,7 +66,8 @@ itself key other is =
     let kind = subst (λ k. is_same_kind key.kind k ≡ true) (sym (same_kind key.kind other.kind both.0)) both.0 in
     both_are (is_same_kind key.kind key.kind) (bytes_eq key.name key.name) kind (nat_list_eq_equiv.refl key.name)
 
-pub entities_own : (entities : List Key) (one other : Key) (number : ℕ) → number_among entities one ≡ Some number → number_among entities other ≡ Some number → is_same one other ≡ true
+pub entities_own : (entities : List Key) (one other : Key) (number : ℕ) → number_among entities one ≡ Some number
+    → number_among entities other ≡ Some number → is_same one other ≡ true
 entities_own entities one other number first second =
     let both = both_pass (is_same one) (is_same other) entities number first second in
     let whose : is_same other ≡ is_same both.0 = same_keys other both.0 both.2 in
@@ -91,9 +95,11 @@ placed_before : (ms : List Mentioned) (n i x : ℕ) → Placed ms n i x → Plac
 placed_before ms n i x p = record { below = p.below; is = p.is; most = omega (arith, p.most); unused = p.unused; place = p.place }
 
 placed_last : (ms : List Mentioned) (n i x : ℕ) → is_used ms (suc n) ≡ false → i ≡ length (free_up_to ms n) → suc n ≡ x → Placed ms (suc n) i x
-placed_last ms n i x unused place is = record { below = n; is = sym is; most = omega (arith, is); unused = subst (λ k. is_used ms k ≡ false) is unused; place = place }
+placed_last ms n i x unused place is =
+    record { below = n; is = sym is; most = omega (arith, is); unused = subst (λ k. is_used ms k ≡ false) is unused; place = place }
 
-placed_by : (ms : List Mentioned) (n i x : ℕ) (b : Bool) → is_used ms (suc n) ≡ b → slice_get (free_up_to ms n ++ unless_used b (suc n)) i ≡ Some x → (slice_get (free_up_to ms n) i ≡ Some x → Placed ms n i x) → Placed ms (suc n) i x
+placed_by : (ms : List Mentioned) (n i x : ℕ) (b : Bool) → is_used ms (suc n) ≡ b → slice_get (free_up_to ms n ++ unless_used b (suc n)) i
+    ≡ Some x → (slice_get (free_up_to ms n) i ≡ Some x → Placed ms n i x) → Placed ms (suc n) i x
 placed_by ms n i x true used is more = placed_before ms n i x (more (ap (λ l. slice_get l i) (sym (append-nil (free_up_to ms n))) ∙ is))
 placed_by ms n i x false unused is more =
     elim (last_or_before (free_up_to ms n) (suc n) i x is) [ inl p ↦ placed_before ms n i x (more p) | inr p ↦ placed_last ms n i x unused p.0 p.1 ]
@@ -116,7 +122,9 @@ record HasPlace (statements : List Statement) (name : List ℕ) (x : ℕ) : Type
   found : position_from (bytes_eq name) 0 (parameters_of statements) ≡ Some place
   number : slice_get (free_numbers (mentioned_in statements)) place ≡ Some x
 
-has_place_by : (statements : List Statement) (name : List ℕ) (x : ℕ) (place : Option ℕ) → position_from (bytes_eq name) 0 (parameters_of statements) ≡ place → option_and_then (slice_get (free_numbers (mentioned_in statements))) place ≡ Some x → HasPlace statements name x
+has_place_by : (statements : List Statement) (name : List ℕ) (x : ℕ) (place : Option ℕ)
+    → position_from (bytes_eq name) 0 (parameters_of statements) ≡ place
+    → option_and_then (slice_get (free_numbers (mentioned_in statements))) place ≡ Some x → HasPlace statements name x
 has_place_by statements name x None found is = absurd (cc)
 has_place_by statements name x (Some place) found is = record { place = place; found = found; number = is }
 
@@ -129,7 +137,8 @@ parameters_free statements name number is =
     let p = free_place (mentioned_in statements) h.place number h.number in
     record { least = omega (arith, p.is); most = p.most; unused = p.unused }
 
-pub parameters_own : (statements : List Statement) (one other : List ℕ) (number : ℕ) → parameter_of statements one ≡ Some number → parameter_of statements other ≡ Some number → one ≡ other
+pub parameters_own : (statements : List Statement) (one other : List ℕ) (number : ℕ) → parameter_of statements one ≡ Some number
+    → parameter_of statements other ≡ Some number → one ≡ other
 parameters_own statements one other number first second =
     let ms = mentioned_in statements in
     let h = has_place statements one number first in

@@ -1,5 +1,6 @@
 -- First sights.
-use Rattle.std.proofs.Common.{◌≡◌, ℕ, suc, ◌+◌, List, [], ◌∷◌, ◌++◌, length, map, cond, Option, Some, None, Bool, true, false, ◌&&◌, ◌||◌, if◌then◌else◌, nat_lt, is_some, refl, sym, ap, subst, ◌∙◌, arith, add-zero}
+use Rattle.std.proofs.Common.{◌≡◌, ℕ, suc, ◌+◌, List, [], ◌∷◌, ◌++◌, length, map, cond, Option, Some, None, Bool, true, false, ◌&&◌, ◌||◌}
+use Rattle.std.proofs.Common.{if◌then◌else◌, nat_lt, is_some, refl, sym, ap, subst, ◌∙◌, arith, add-zero}
 use Rattle.std.specs.Prelude.{string_bytes}
 use Rattle.std.specs.Option.{option_or}
 use Rattle.std.proofs.lemmas.List.{map-append, length-map}
@@ -31,7 +32,8 @@ alone true k = ap Some (sym (add-zero k))
 alone false k = refl
 
 -- one more behind them
-pub place_behind : {A : Type 0} (test : A → Bool) (k : ℕ) (xs : List A) (x : A) → position_from test k (xs ++ x ∷ []) ≡ option_or (position_from test k xs) (if test x then Some (k + length xs) else None)
+pub place_behind : {A : Type 0} (test : A → Bool) (k : ℕ) (xs : List A) (x : A) → position_from test k (xs ++ x ∷ [])
+    ≡ option_or (position_from test k xs) (if test x then Some (k + length xs) else None)
 place_behind test k [] x = alone (test x) k
 place_behind test k (y ∷ xs) x =
     let far : k + 1 + length xs ≡ k + suc (length xs) = omega arith in
@@ -74,15 +76,20 @@ same_keys one other is =
     let kind = same_kind one.kind other.kind both.0 in
     λ j x. is_same_kind (kind j) x.kind && nat_list_eq_equiv.congr one.name other.name x.name both.1 j
 
-numbered_by : (b : Bool) (n : ℕ) (before found : Option ℕ) → before ≡ found → (b ≡ true → found ≡ None) → option_or (option_or None (if b then Some n else None)) before ≡ option_or found (if b then Some n else None)
+numbered_by : (b : Bool) (n : ℕ) (before found : Option ℕ) → before ≡ found → (b ≡ true → found ≡ None)
+    → option_or (option_or None (if b then Some n else None)) before ≡ option_or found (if b then Some n else None)
 numbered_by true n before found is none = sym (ap (λ o. option_or o (Some n)) (none refl))
 numbered_by false n before found is none = is ∙ sym (or_none found)
 
 -- a new entity has the next number
-pub number_added : (before after : EntityKind → List ℕ → Option ℕ) (keys : List Key) (kind : EntityKind) (name : List ℕ) → ((k : EntityKind) (n : List ℕ) → before k n ≡ number_among keys (key k n)) → before kind name ≡ None → AddsEntities ((key kind name, length keys) ∷ []) before after → (k : EntityKind) (n : List ℕ) → after k n ≡ number_among (keys ++ key kind name ∷ []) (key k n)
+pub number_added : (before after : EntityKind → List ℕ → Option ℕ) (keys : List Key) (kind : EntityKind) (name : List ℕ)
+    → ((k : EntityKind) (n : List ℕ) → before k n ≡ number_among keys (key k n)) → before kind name ≡ None
+    → AddsEntities ((key kind name, length keys) ∷ []) before after → (k : EntityKind) (n : List ℕ) → after k n
+    ≡ number_among (keys ++ key kind name ∷ []) (key k n)
 number_added before after keys kind name numbers new adds k n =
     let same = is_same (key k n) (key kind name) in
-    let none : same ≡ true → number_among keys (key k n) ≡ None = λ e. ap (λ test. position_from test 0 keys) (same_keys (key k n) (key kind name) e) ∙ sym (numbers kind name) ∙ new in
+    let none : same ≡ true → number_among keys (key k n) ≡ None =
+    λ e. ap (λ test. position_from test 0 keys) (same_keys (key k n) (key kind name) e) ∙ sym (numbers kind name) ∙ new in
     let far : length keys ≡ 0 + length keys = omega arith in
     adds k n
     ∙ numbered_by same (length keys) (before k n) (number_among keys (key k n)) (numbers k n) none
@@ -90,22 +97,31 @@ number_added before after keys kind name numbers new adds k n =
     ∙ sym (place_behind (is_same (key k n)) 0 keys (key kind name))
 
 -- one more entity
-pub sighted_more : (declarations before after : ByKind ℕ) (sighted more : List Sighted) (entity : Sighted) (kind : EntityKind) (name : List ℕ) (number : ℕ) → IsSighted declarations before sighted → entity_of before kind name ≡ None → more ≡ sighted ++ entity ∷ [] → entity.kind ≡ kind → string_bytes entity.name ≡ name → entity.declaration ≡ entity_of declarations kind name → number ≡ length sighted → AddsEntities ((key kind name, number) ∷ []) (entity_of before) (entity_of after) → IsSighted declarations after more
+pub sighted_more : (declarations before after : ByKind ℕ) (sighted more : List Sighted) (entity : Sighted) (kind : EntityKind)
+    (name : List ℕ) (number : ℕ) → IsSighted declarations before sighted → entity_of before kind name ≡ None → more ≡ sighted ++ entity
+    ∷ [] → entity.kind ≡ kind → string_bytes entity.name ≡ name → entity.declaration ≡ entity_of declarations kind name → number
+    ≡ length sighted → AddsEntities ((key kind name, number) ∷ []) (entity_of before) (entity_of after) → IsSighted declarations after more
 sighted_more declarations before after sighted more entity kind name number so_far new grows of_kind of_name declared counts adds =
     let keys = keys_of sighted in
     let found : Key → Option ℕ = λ k. entity_of declarations k.kind k.name in
     let told : Sighted → Option ℕ = λ s. s.declaration in
-    let grown : keys_of more ≡ keys ++ key kind name ∷ [] = ap keys_of grows ∙ map-append key_of sighted (entity ∷ []) ∙ (λ j. keys ++ key (of_kind j) (of_name j) ∷ []) in
+    let grown : keys_of more ≡ keys ++ key kind name ∷ [] = ap keys_of grows ∙ map-append key_of sighted (entity ∷ [])
+    ∙ (λ j. keys ++ key (of_kind j) (of_name j) ∷ []) in
     let counted : number ≡ length keys = counts ∙ sym (length-map sighted key_of) in
-    let next : AddsEntities ((key kind name, length keys) ∷ []) (entity_of before) (entity_of after) = subst (λ n. AddsEntities ((key kind name, n) ∷ []) (entity_of before) (entity_of after)) counted adds in
+    let next : AddsEntities ((key kind name, length keys) ∷ []) (entity_of before) (entity_of after) =
+    subst (λ n. AddsEntities ((key kind name, n) ∷ []) (entity_of before) (entity_of after)) counted adds in
     record {
-      number = λ k n. number_added (entity_of before) (entity_of after) keys kind name so_far.number new next k n ∙ ap (λ l. number_among l (key k n)) (sym grown);
-      declared = ap (map told) grows ∙ map-append told sighted (entity ∷ []) ∙ ap (λ l. l ++ entity.declaration ∷ []) so_far.declared ∙ ap (λ d. map found keys ++ d ∷ []) declared ∙ sym (map-append found keys (key kind name ∷ [])) ∙ ap (map found) (sym grown);
+      number = λ k n. number_added (entity_of before) (entity_of after) keys kind name so_far.number new next k n
+          ∙ ap (λ l. number_among l (key k n)) (sym grown);
+      declared = ap (map told) grows ∙ map-append told sighted (entity ∷ []) ∙ ap (λ l. l ++ entity.declaration ∷ []) so_far.declared
+          ∙ ap (λ d. map found keys ++ d ∷ []) declared ∙ sym (map-append found keys (key kind name ∷ [])) ∙ ap (map found) (sym grown);
     }
 
 -- whether an entity was seen
-pub entity_seen : (declarations entities : ByKind ℕ) (sighted : List Sighted) (kind : EntityKind) (name : List ℕ) → IsSighted declarations entities sighted → list_any (is_same (key kind name)) (keys_of sighted) ≡ is_some (entity_of entities kind name)
-entity_seen declarations entities sighted kind name so_far = sym (place_there (is_same (key kind name)) 0 (keys_of sighted)) ∙ ap is_some (sym (so_far.number kind name))
+pub entity_seen : (declarations entities : ByKind ℕ) (sighted : List Sighted) (kind : EntityKind) (name : List ℕ)
+    → IsSighted declarations entities sighted → list_any (is_same (key kind name)) (keys_of sighted) ≡ is_some (entity_of entities kind name)
+entity_seen declarations entities sighted kind name so_far = sym (place_there (is_same (key kind name)) 0 (keys_of sighted))
+    ∙ ap is_some (sym (so_far.number kind name))
 
 -- SIGHTS
 

@@ -23,7 +23,8 @@ LedgerKeepsTheFirst = (noted : List Noted) (one : Noted) → with_notes None not
 
 -- two entities never share a number
 abbrev pub EntitiesHaveTheirOwn : Type 0
-EntitiesHaveTheirOwn = (entities : List Key) (one other : Key) (number : ℕ) → number_among entities one ≡ Some number → number_among entities other ≡ Some number → is_same one other ≡ true
+EntitiesHaveTheirOwn = (entities : List Key) (one other : Key) (number : ℕ) → number_among entities one ≡ Some number
+    → number_among entities other ≡ Some number → is_same one other ≡ true
 
 -- the number of a named parameter is from 1 to 64, and the text doesn't use it
 pub record IsFree (statements : List Statement) (number : ℕ) : Type 0 where
@@ -36,8 +37,10 @@ ParametersAreFree = (statements : List Statement) (name : List ℕ) (number : �
 
 -- and two named parameters never share one
 abbrev pub ParametersHaveTheirOwn : Type 0
-ParametersHaveTheirOwn = (statements : List Statement) (one other : List ℕ) (number : ℕ) → parameter_of statements one ≡ Some number → parameter_of statements other ≡ Some number → one ≡ other
+ParametersHaveTheirOwn = (statements : List Statement) (one other : List ℕ) (number : ℕ) → parameter_of statements one ≡ Some number
+    → parameter_of statements other ≡ Some number → one ≡ other
 
 -- where all names are known, the uses that are refused are those of the text
 abbrev pub RefusalsAreThoseOfTheText : Type 0
-RefusalsAreThoseOfTheText = (statements : List Statement) (known : Known) → Knows statements known → refusals_by (declared_by known) statements ≡ refusals_in statements
+RefusalsAreThoseOfTheText = (statements : List Statement) (known : Known) → Knows statements known
+    → refusals_by (declared_by known) statements ≡ refusals_in statements

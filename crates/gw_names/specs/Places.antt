@@ -1,5 +1,6 @@
 -- Which statement of a text a name stands for.
-use Rattle.std.specs.Prelude.{◌≡◌, ℕ, ℤ, ◌+◌, List, [], ◌∷◌, ◌++◌, Option, Some, None, Result, OnOk, Bool, true, false, if◌then◌else◌, nat_lt, option_map, option_and_then, string_bytes}
+use Rattle.std.specs.Prelude.{◌≡◌, ℕ, ℤ, ◌+◌, List, [], ◌∷◌, ◌++◌, Option, Some, None, Result, OnOk, Bool, true, false, if◌then◌else◌, nat_lt}
+use Rattle.std.specs.Prelude.{option_map, option_and_then, string_bytes}
 use Rattle.std.specs.Option.{option_or}
 use Rattle.std.specs.Str.{bytes_eq}
 use Rattle.std.specs.declared.string.String.{String}
@@ -147,7 +148,8 @@ equ_number_in above word operands = None
 -- what a name is below a statement, where it is this above
 abbrev pub number_below : (List ℕ → Option ℤ) → Statement → List ℕ → Option ℤ
 number_below above s name =
-    option_or (option_and_then (λ z. option_and_then (λ label. if bytes_eq name label then Some z else None) (label_of s)) (equ_number_in above s.word s.operands.items))
+    option_or (option_and_then (λ z. option_and_then (λ label. if bytes_eq name label then Some z else None) (label_of s))
+    (equ_number_in above s.word s.operands.items))
     (above name)
 
 -- what names are below these statements

@@ -94,4 +94,5 @@ module _ {Y S : Type 0} where
 
   -- parameters that were seen have these numbers, in order
   abbrev pub HaveNumbers : List ℕ → IndexMap (String Y) ℕ S → Type 0
-  HaveNumbers free parameters = (name : List ℕ) → found_in parameters name ≡ option_and_then (slice_get free) (position_from (bytes_eq name) 0 (names_of parameters))
+  HaveNumbers free parameters = (name : List ℕ) → found_in parameters name
+      ≡ option_and_then (slice_get free) (position_from (bytes_eq name) 0 (names_of parameters))

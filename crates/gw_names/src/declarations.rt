@@ -7,8 +7,8 @@ ghost use Rattle.gw_names.specs.Places.{declared_equ, declared_procedure};
 
 use crate::entities::Declarations;
 use crate::maps::{set, set_label};
-use gw_text::{Body, Statement, Word};
 use gw_name_uses::declared_kind;
+use gw_text::{Body, Statement, Word};
 use indexmap::IndexMap;
 use std::alloc::AllocError;
 

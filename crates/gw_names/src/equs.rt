@@ -5,7 +5,7 @@ ghost use Rattle.gw_names.specs.Known.{Finds, found_in};
 ghost use Rattle.gw_names.specs.Places as model;
 ghost use Rattle.gw_names.specs.Places.{number_below};
 
-use crate::maps::{value_of_name, set};
+use crate::maps::{set, value_of_name};
 use gw_text::{Expression, Operand, Statement, Word};
 use indexmap::IndexMap;
 use std::alloc::AllocError;

@@ -11,9 +11,9 @@ use crate::declarations::is_equ;
 use crate::known::Known;
 use crate::ledger::{Ledger, note_if};
 use crate::maps::value_of_name;
+use gw_name_uses::{Site, Use, uses_in};
 use gw_rules::EntityKind;
 use gw_text::{Body, Statement};
-use gw_name_uses::{Site, Use, uses_in};
 use std::alloc::{AllocError, Global};
 
 /// How an entity is refused that nothing declares: 80 Name where its kind has to be declared, and 81 Storage for a storage.

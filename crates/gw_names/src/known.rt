@@ -11,8 +11,8 @@ use crate::ledger::Ledger;
 use crate::parameters::parameters_in;
 use crate::places::places_in;
 use crate::sights::{Sighted, see_sites};
-use gw_text::Statement;
 use gw_name_uses::uses_in;
+use gw_text::Statement;
 use indexmap::IndexMap;
 use std::alloc::{AllocError, Global};
 

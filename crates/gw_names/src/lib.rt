@@ -22,6 +22,6 @@ pub use gw_name_uses::{Use, put_uses, put_uses_of_operand, put_uses_of_procedure
 pub use judgement::check_uses;
 pub use known::{Known, known_names};
 pub use ledger::{Ledger, Noted};
-pub use maps::{value_of_name, set, set_label};
+pub use maps::{set, set_label, value_of_name};
 pub use names::Names;
 pub use sights::Sighted;

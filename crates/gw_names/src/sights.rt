@@ -8,8 +8,8 @@ ghost use Rattle.gw_names.specs.Sighting.{RefusesKey, RefusesKeyIn, RefusesKeys}
 use crate::codes;
 use crate::entities::{Declarations, EntityNames};
 use crate::ledger::Ledger;
-use gw_rules::EntityKind;
 use gw_name_uses::{Site, Use};
+use gw_rules::EntityKind;
 use std::alloc::AllocError;
 
 /// The most entities of an object.

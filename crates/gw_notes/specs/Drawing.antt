@@ -6,7 +6,8 @@ use Rattle.gw_blocks.specs.declared.parts.Operand.{Operand}
 use Rattle.gw_blocks.specs.declared.parts.Operand.TheVariants.{Constant, Random}
 use Rattle.gw_blocks.specs.declared.parts.Spread.{Spread}
 use Rattle.gw_blocks.specs.declared.parts.Block.{Block}
-use Rattle.gw_blocks.specs.declared.parts.Block.TheVariants.{Generate, Advance, TransferByFraction, Terminate, Assign, Savevalue, Test, Priority, Plus, Tabulate}
+use Rattle.gw_blocks.specs.declared.parts.Block.TheVariants.{Generate, Advance, TransferByFraction, Terminate, Assign, Savevalue, Test, Priority}
+use Rattle.gw_blocks.specs.declared.parts.Block.TheVariants.{Plus, Tabulate}
 use Rattle.gw_object.specs.declared.parts.Entity.{Entity}
 use Rattle.gw_object.specs.declared.parts.Parts.{Parts}
 use Rattle.gw_operands.specs.Sources.{source_of, operand_at}

@@ -1,5 +1,6 @@
 -- Powers with an exponent above 64: for the bases -1, 0 and 1 its parity decides, and those of any other base leave i64.
-use Rattle.std.proofs.Common.{◌≡◌, refl, ap, ◌∙◌, sym, ℕ, zero, suc, ◌+◌, ◌*◌, ◌%◌, ◌^◌, ◌<◌, ◌≤◌, ◌==◌, Bool, true, false, cond, not, ℤ, pos, negsuc, neg_ℤ, ◌*ℤ◌, zero-mul, add-one, le_trans, arith, lit<, le-ltb, Err}
+use Rattle.std.proofs.Common.{◌≡◌, refl, ap, ◌∙◌, sym, ℕ, zero, suc, ◌+◌, ◌*◌, ◌%◌, ◌^◌, ◌<◌, ◌≤◌, ◌==◌, Bool, true, false, cond, not, ℤ, pos, negsuc}
+use Rattle.std.proofs.Common.{neg_ℤ, ◌*ℤ◌, zero-mul, add-one, le_trans, arith, lit<, le-ltb, Err}
 use Rattle.std.proofs.Math.Nat.{pow-suc, pow-zero, pow-le-pow_left, pow-le-pow_right}
 use Rattle.std.proofs.lemmas.Bool.{cond-false}
 use Rattle.std.specs.Int.{int_pow}

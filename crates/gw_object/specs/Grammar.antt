@@ -1,9 +1,11 @@
 -- The object grammar: which parts have a spelling, and which bytes spell them.
-use Rattle.std.specs.Prelude.{◌≡◌, ◌≢◌, ◌⊎◌, ℕ, ◌-◌, ◌≤◌, ◌<◌, Bool, true, false, not, IsTrue, ◌==◌, ◌||◌, List, [], ◌∷◌, map, length, slice_get, Option, Some, None, IfSome, nat_lt}
+use Rattle.std.specs.Prelude.{◌≡◌, ◌≢◌, ◌⊎◌, ℕ, ◌-◌, ◌≤◌, ◌<◌, Bool, true, false, not, IsTrue, ◌==◌, ◌||◌, List, [], ◌∷◌, map, length, slice_get}
+use Rattle.std.specs.Prelude.{Option, Some, None, IfSome, nat_lt}
 use Rattle.std.specs.List.{All, AllPairs, zip}
 use Rattle.std.specs.Int.{w16, w32, w64}
 use Rattle.gw_object.specs.Codes as codes
-use Rattle.gw_object.specs.Limits.{most_bytes, most_seeds, greatest_seed, greatest_count, most_entities, greatest_units, most_procedures, most_blocks, most_return_rows, greatest_weight}
+use Rattle.gw_object.specs.Limits.{most_bytes, most_seeds, greatest_seed, greatest_count, most_entities, greatest_units, most_procedures, most_blocks}
+use Rattle.gw_object.specs.Limits.{most_return_rows, greatest_weight}
 use Rattle.gw_blocks.specs.Limits.{most_parameters}
 use Rattle.gw_blocks.specs.declared.parts.Units.{Units}
 use Rattle.gw_object.specs.declared.parts.TableKind.{TableKind}
@@ -12,7 +14,8 @@ use Rattle.gw_object.specs.declared.parts.TableParameter.{TableParameter}
 use Rattle.gw_object.specs.declared.parts.TableState.{TableState}
 use Rattle.gw_object.specs.declared.parts.ReturnRow.{ReturnRow}
 use Rattle.gw_object.specs.declared.parts.Parts.{Parts}
-use Rattle.gw_fields.specs.Fields.{Read, Field, number, as_type, field_with_test, both, and_then, constant, field_that_fits, number_between, optional, Form, behind, by_tag, nothing, Element, plain, last_tested, ascending_element, above_last, elements, list_of}
+use Rattle.gw_fields.specs.Fields.{Read, Field, number, as_type, field_with_test, both, and_then, constant, field_that_fits, number_between, optional}
+use Rattle.gw_fields.specs.Fields.{Form, behind, by_tag, nothing, Element, plain, last_tested, ascending_element, above_last, elements, list_of}
 use Rattle.gw_code.specs.Grammar.{ProcedureFits, NeedsAscend, procedure}
 use Rattle.gw_object.specs.Entities.{entity, EntityFits, EntityAscends, IsLettered, AreNamesakes, chains_in}
 use Rattle.gw_blocks.specs.Grammar.{entity_number, block_number, parameter_number, IsOfVersion, BlockFits, block}
@@ -35,7 +38,8 @@ AreAscending row = AllPairs (λ a b. a < b) row.blocks
 
 -- a return row: at least one block
 unfoldable pub return_row : Field ReturnRow
-return_row = field_that_fits (λ row. ReturnRowFits row × AreAscending row) (as_type (λ blocks. record { blocks = blocks }) (λ row. row.blocks) (list_of 1 most_blocks return_block))
+return_row = field_that_fits (λ row. ReturnRowFits row × AreAscending row)
+    (as_type (λ blocks. record { blocks = blocks }) (λ row. row.blocks) (list_of 1 most_blocks return_block))
 
 -- a return row's number
 abbrev pub row_number : Field ℕ
@@ -78,7 +82,8 @@ owned_facility = above_last entity_number
 
 -- units that a transaction holds, of an entity above the one before it
 abbrev pub held_units : Element Units
-held_units = ascending_element nat_lt (λ (entity, n). record { entity = entity; number = n }) (λ u. (u.entity, u.number)) entity_number (number_between 1 greatest_units (number w32))
+held_units = ascending_element nat_lt (λ (entity, n). record { entity = entity; number = n }) (λ u. (u.entity, u.number)) entity_number
+    (number_between 1 greatest_units (number w32))
 
 -- the entity's number fits, and the number of units is within limits
 pub record HeldFits (u : Units) : Type 0 where
@@ -150,15 +155,19 @@ pub record CertificateFits (version n : ℕ) (x : List ℕ × List (Option (ℕ 
 
 -- the weights and the slopes of so many blocks
 abbrev pub certificate : ℕ → ℕ → Field (List ℕ × List (Option (ℕ × ℕ)))
-certificate version n = field_that_fits (CertificateFits version n) (as_type (λ xs. (map (λ x. x.0) xs, map (λ x. x.1) xs)) (λ x. zip x.0 x.1) (elements (plain (sloped_weight version)) n))
+certificate version n = field_that_fits (CertificateFits version n)
+    (as_type (λ xs. (map (λ x. x.0) xs, map (λ x. x.1) xs)) (λ x. zip x.0 x.1) (elements (plain (sloped_weight version)) n))
 
 -- the weights of so many user chains
 abbrev pub chain_certificate : ℕ → Field (List ℕ)
 chain_certificate n = elements (plain weight) n
 
 -- the return rows, for each of so many blocks and each of so many user chains its row of the state table, and for each its weight, with the blocks' slopes
-unfoldable pub tables : ℕ → ℕ → ℕ → Field (List ReturnRow × (List (Option TableState) × (List (Option TableState) × ((List ℕ × List (Option (ℕ × ℕ))) × List ℕ))))
-tables version blocks chains = both (list_of 0 most_return_rows (plain return_row)) (both (rows blocks) (both (rows chains) (both (certificate version blocks) (chain_certificate chains))))
+unfoldable pub tables : ℕ → ℕ → ℕ
+    → Field (List ReturnRow × (List (Option TableState) × (List (Option TableState) × ((List ℕ × List (Option (ℕ × ℕ))) × List ℕ))))
+tables version blocks chains =
+    both (list_of 0 most_return_rows (plain return_row))
+    (both (rows blocks) (both (rows chains) (both (certificate version blocks) (chain_certificate chains))))
 
 -- ---- the object
 
@@ -186,10 +195,29 @@ start_count = number_between 1 greatest_count (number w64)
 unfoldable pub object : Field Parts
 object = as_type
     (λ ((_, version), (seeds, (count, (entities, (procedures, (blocks, (returns, (states, (chain_states, ((weights, slopes), chain_weights)))))))))).
-        record { version = version; seeds = seeds; count = count; entities = entities; procedures = procedures; blocks = blocks;
-            returns = returns; states = states; chain_states = chain_states; weights = weights; slopes = slopes; chain_weights = chain_weights })
-    (λ p. ((tt, p.version), (p.seeds, (p.count, (p.entities, (p.procedures, (p.blocks, (p.returns, (p.states, (p.chain_states, ((p.weights, p.slopes), p.chain_weights)))))))))))
-    (and_then head (λ head. both (list_of 0 most_seeds seed) (both start_count (and_then (list_of 0 most_entities entity) (λ entities. both (list_of 0 most_procedures (plain procedure))
+    record {
+      version = version;
+      seeds = seeds;
+      count = count;
+      entities = entities;
+      procedures = procedures;
+      blocks = blocks;
+      returns = returns;
+      states = states;
+      chain_states = chain_states;
+      weights = weights;
+      slopes = slopes;
+      chain_weights = chain_weights;
+    })
+    (λ p. (
+      (tt, p.version),
+      (
+        p.seeds,
+        (p.count, (p.entities, (p.procedures, (p.blocks, (p.returns, (p.states, (p.chain_states, ((p.weights, p.slopes), p.chain_weights)))))))),
+      ),
+    ))
+    (and_then head (λ head. both (list_of 0 most_seeds seed)
+    (both start_count (and_then (list_of 0 most_entities entity) (λ entities. both (list_of 0 most_procedures (plain procedure))
     (and_then (list_of 0 most_blocks (plain (block head.1))) (λ blocks. tables head.1 (length blocks) (chains_in entities))))))))
 
 -- the bytes that spell parts

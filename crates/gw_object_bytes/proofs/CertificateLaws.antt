@@ -1,5 +1,6 @@
 -- The weights of blocks and their slopes are exact.
-use Rattle.std.proofs.Common.{◌≡◌, ℕ, Bool, true, false, List, [], ◌∷◌, map, length, get_or, take, min, ◌+◌, ◌<◌, Option, Some, None, Ok, refl, sym, ap, ap₂, subst, ◌∙◌, arith, inl, inr}
+use Rattle.std.proofs.Common.{◌≡◌, ℕ, Bool, true, false, List, [], ◌∷◌, map, length, get_or, take, min, ◌+◌, ◌<◌, Option, Some, None, Ok, refl, sym}
+use Rattle.std.proofs.Common.{ap, ap₂, subst, ◌∙◌, arith, inl, inr}
 use Rattle.std.specs.Prelude.{IfSome, IsTrue}
 use Rattle.std.specs.List.{All, flat_map, zip}
 use Rattle.std.specs.Int.{w32}
@@ -8,15 +9,19 @@ use Rattle.std.proofs.lemmas.List.Elements.{All-map}
 use Rattle.std.proofs.lemmas.Slice.Zip.{length-zip, firsts-zip, seconds-zip, get_or-zip}
 use Rattle.gw_object.specs.Limits.{greatest_weight}
 use Rattle.gw_fields.specs.Fields.{Field, number, as_type, field_that_fits, nothing, plain, elements}
-use Rattle.gw_object.specs.Grammar.{weight, parameter_slope, no_slope, has_slopes, slope_where, slope, IsSlopeOfVersion, SlopeFits, sloped_weight, CertificateFits, certificate}
+use Rattle.gw_object.specs.Grammar.{weight, parameter_slope, no_slope, has_slopes, slope_where, slope, IsSlopeOfVersion, SlopeFits, sloped_weight}
+use Rattle.gw_object.specs.Grammar.{CertificateFits, certificate}
 use Rattle.gw_block_bytes.proofs.BlockLaws.{parameter_number_exact}
 use Rattle.gw_field_bytes.specs.Receivers.{Content, with_bytes}
 use Rattle.gw_field_bytes.proofs.Receiving.{one_more_put}
-use Rattle.gw_field_bytes.proofs.Exact.{Takes, cuts_still, bind_ok, bind_err, ok_is, not_both, IsExact, wide32, number_exact, both_exact, ranged_exact, nothing_exact, optional_exact, plain_exact, elements_exact, All-from_fit, fit-from_All}
+use Rattle.gw_field_bytes.proofs.Exact.{Takes, cuts_still, bind_ok, bind_err, ok_is, not_both, IsExact, wide32, number_exact, both_exact}
+use Rattle.gw_field_bytes.proofs.Exact.{ranged_exact, nothing_exact, optional_exact, plain_exact, elements_exact, All-from_fit, fit-from_All}
 
 -- one more weight is put behind those before it, with its slope
-pub one_more_weight : (version : ℕ) (weights : List ℕ) (slopes : List (Option (ℕ × ℕ))) (i w : ℕ) (s : Option (ℕ × ℕ)) (start before behind : Content) → i < min (length weights) (length slopes) → w ≡ get_or weights i 0 → s ≡ get_or slopes i None
-    → before ≡ with_bytes (flat_map (sloped_weight version).spell (take i (zip weights slopes))) start → behind ≡ with_bytes ((sloped_weight version).spell (w, s)) before
+pub one_more_weight : (version : ℕ) (weights : List ℕ) (slopes : List (Option (ℕ × ℕ))) (i w : ℕ) (s : Option (ℕ × ℕ))
+    (start before behind : Content) → i < min (length weights) (length slopes) → w ≡ get_or weights i 0 → s ≡ get_or slopes i None
+    → before ≡ with_bytes (flat_map (sloped_weight version).spell (take i (zip weights slopes))) start → behind
+    ≡ with_bytes ((sloped_weight version).spell (w, s)) before
     → behind ≡ with_bytes (flat_map (sloped_weight version).spell (take (i + 1) (zip weights slopes))) start
 one_more_weight version weights slopes i w s start before behind lt weight_is slope_is front last =
     let pairs = zip weights slopes in
@@ -25,11 +30,13 @@ one_more_weight version weights slopes i w s start before behind lt weight_is sl
     let there : i < length pairs = omega (arith, lt, length-zip weights slopes) in
     let its_weight : get_or weights i w ≡ w = get_or_default weights i w 0 first ∙ sym weight_is in
     let its_slope : get_or slopes i s ≡ s = get_or_default slopes i s None second ∙ sym slope_is in
-    let here : (w, s) ≡ get_or pairs i (w, s) = sym (get_or-zip weights slopes i (w, s) first second ∙ ap₂ (λ (x : ℕ) (y : Option (ℕ × ℕ)). (x, y)) its_weight its_slope) in
+    let here : (w, s) ≡ get_or pairs i (w, s) =
+    sym (get_or-zip weights slopes i (w, s) first second ∙ ap₂ (λ (x : ℕ) (y : Option (ℕ × ℕ)). (x, y)) its_weight its_slope) in
     one_more_put (sloped_weight version).spell pairs i (w, s) start before behind there here front last
 
 -- a field's value under another type, where the values that fit are told in other words
-made_fitting_exact : {A B : Type 0} (make : A → B) (back : B → A) (f : Field A) (Fits : B → Type 0) → ((x : A) → f.Fits x → (back (make x) ≡ x) × Fits (make x)) → ((y : B) → Fits y → (make (back y) ≡ y) × f.Fits (back y)) → IsExact f
+made_fitting_exact : {A B : Type 0} (make : A → B) (back : B → A) (f : Field A) (Fits : B → Type 0)
+    → ((x : A) → f.Fits x → (back (make x) ≡ x) × Fits (make x)) → ((y : B) → Fits y → (make (back y) ≡ y) × f.Fits (back y)) → IsExact f
     → IsExact (field_that_fits Fits (as_type make back f))
 made_fitting_exact {A} {B} make back f Fits there here exact = record {
   takes = λ bytes x fits e.
@@ -72,10 +79,12 @@ fits_slope true (Some s) h = (refl, record { parameter = h.0; least = h.1.0; mos
 fits_slope false None h = (tt, tt)
 fits_slope false (Some s) h = absurd (cc)
 
-pub slopes_fit : (version : ℕ) (slopes : List (Option (ℕ × ℕ))) → All (IsSlopeOfVersion version) slopes → All (λ slope. IfSome slope SlopeFits) slopes → All (slope version).Fits slopes
+pub slopes_fit : (version : ℕ) (slopes : List (Option (ℕ × ℕ))) → All (IsSlopeOfVersion version) slopes
+    → All (λ slope. IfSome slope SlopeFits) slopes → All (slope version).Fits slopes
 slopes_fit version slopes has fits k d lt = slope_fits (has_slopes version) (get_or slopes k d) (has k d lt) (fits k d lt)
 
-pub fits_slopes : (version : ℕ) (slopes : List (Option (ℕ × ℕ))) → All (slope version).Fits slopes → All (λ slope. IsSlopeOfVersion version slope × IfSome slope SlopeFits) slopes
+pub fits_slopes : (version : ℕ) (slopes : List (Option (ℕ × ℕ))) → All (slope version).Fits slopes
+    → All (λ slope. IsSlopeOfVersion version slope × IfSome slope SlopeFits) slopes
 fits_slopes version slopes h k d lt = fits_slope (has_slopes version) (get_or slopes k d) (h k d lt)
 
 -- ---- weights with their slopes
@@ -126,4 +135,5 @@ module _ (version n : ℕ) where
       ap₂ (λ (ws : List ℕ) (ss : List (Option (ℕ × ℕ))). (ws, ss)) (firsts-zip weights slopes same) (seconds-zip weights slopes same)
 
   pub certificate_exact : IsExact (certificate version n)
-  certificate_exact = made_fitting_exact _ _ _ (CertificateFits version n) (λ xs h. (zip_parts xs, parts_fit xs h)) (λ x h. (parts_zip x h, zip_fits x h)) (elements_exact _ n (plain_exact _ (sloped_weight_exact version)))
+  certificate_exact = made_fitting_exact _ _ _ (CertificateFits version n) (λ xs h. (zip_parts xs, parts_fit xs h))
+      (λ x h. (parts_zip x h, zip_fits x h)) (elements_exact _ n (plain_exact _ (sloped_weight_exact version)))

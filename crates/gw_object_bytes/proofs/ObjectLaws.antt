@@ -1,5 +1,6 @@
 -- The object grammar is exact: each of its fields, the object, and reading as a whole.
-use Rattle.std.proofs.Common.{◌≡◌, ◌≢◌, ℕ, zero, suc, ◌-◌, ◌≤◌, true, false, cond, eqb, ltb, List, [], ◌∷◌, ◌++◌, length, Some, IsTrue, ◌^◌, ◌<◌, Result, Ok, Err, refl, sym, ap, subst, ◌∙◌, arith, inl, inr, ◌⊎◌, slice_get}
+use Rattle.std.proofs.Common.{◌≡◌, ◌≢◌, ℕ, zero, suc, ◌-◌, ◌≤◌, true, false, cond, eqb, ltb, List, [], ◌∷◌, ◌++◌, length, Some, IsTrue, ◌^◌, ◌<◌}
+use Rattle.std.proofs.Common.{Result, Ok, Err, refl, sym, ap, subst, ◌∙◌, arith, inl, inr, ◌⊎◌, slice_get}
 use Rattle.std.specs.Prelude.{IfOk}
 use Rattle.std.specs.List.{All}
 use Rattle.std.specs.Int.{w16, w32, w64}
@@ -12,7 +13,8 @@ use Rattle.gw_object.specs.Limits.{most_bytes, most_seeds, greatest_seed, greate
 use Rattle.gw_object.specs.declared.parts.Parts.{Parts}
 use Rattle.gw_fields.specs.declared.error.Bad.{Bad}
 use Rattle.gw_fields.specs.Fields.{IsProperFront, bad, number, field_with_test, count, plain, ElementsFit}
-use Rattle.gw_object.specs.Grammar.{weight, rows, IsSlopeOfVersion, CertificateFits, chain_certificate, tables, is_version, version_number, head, seed, start_count, object, spelling, IsWithinLimits, HasSpelling, Spells}
+use Rattle.gw_object.specs.Grammar.{weight, rows, IsSlopeOfVersion, CertificateFits, chain_certificate, tables, is_version, version_number, head}
+use Rattle.gw_object.specs.Grammar.{seed, start_count, object, spelling, IsWithinLimits, HasSpelling, Spells}
 use Rattle.gw_blocks.specs.declared.parts.Block.{Block}
 use Rattle.gw_blocks.specs.Grammar.{IsOfVersion, BlockFits, block}
 use Rattle.gw_code.specs.declared.parts.Procedure.{Procedure}
@@ -24,7 +26,10 @@ use Rattle.gw_object_bytes.proofs.CertificateLaws.{weight_exact, certificate_exa
 use Rattle.gw_object_bytes.proofs.EntityLaws.{entity_exact, entities_fit, entities_are}
 use Rattle.gw_object_bytes.proofs.StateLaws.{return_rows_exact, return_rows_fit, return_rows_keep, state_exact, rows_fit, rows_keep}
 use Rattle.gw_block_bytes.proofs.BlockLaws.{block_exact}
-use Rattle.gw_field_bytes.proofs.Exact.{IsCut, CutsFronts, cuts_still, front_shorter, IsBytes, Takes-shorter, IsExact, IsExactElement, bind_ok, bind_err, chosen, ok_is, err_is, not_both, wide16, wide32, wide64, number_exact, made_exact, and_then_exact, both_exact, tested_exact, fitting_exact, constant_exact, ranged_exact, optional_exact, plain_exact, last_tested_exact, elements_exact, listed_exact, All-from_fit, fit-from_All}
+use Rattle.gw_field_bytes.proofs.Exact.{IsCut, CutsFronts, cuts_still, front_shorter, IsBytes, Takes-shorter, IsExact, IsExactElement, bind_ok}
+use Rattle.gw_field_bytes.proofs.Exact.{bind_err, chosen, ok_is, err_is, not_both, wide16, wide32, wide64, number_exact, made_exact, and_then_exact}
+use Rattle.gw_field_bytes.proofs.Exact.{both_exact, tested_exact, fitting_exact, constant_exact, ranged_exact, optional_exact, plain_exact}
+use Rattle.gw_field_bytes.proofs.Exact.{last_tested_exact, elements_exact, listed_exact, All-from_fit, fit-from_All}
 
 -- ---- what stands for each block
 
@@ -36,7 +41,10 @@ chain_certificate_exact n = elements_exact _ n (plain_exact _ weight_exact)
 
 pub tables_exact : (version blocks chains : ℕ) → IsExact (tables version blocks chains)
 unfolding tables
-tables_exact version blocks chains = both_exact _ _ return_rows_exact (both_exact _ _ (rows_exact blocks) (both_exact _ _ (rows_exact chains) (both_exact _ _ (certificate_exact version blocks) (chain_certificate_exact chains))))
+tables_exact version blocks chains =
+    both_exact _ _ return_rows_exact
+    (both_exact _ _ (rows_exact blocks)
+    (both_exact _ _ (rows_exact chains) (both_exact _ _ (certificate_exact version blocks) (chain_certificate_exact chains))))
 
 -- ---- the object
 
@@ -44,7 +52,8 @@ version_is_short : (n : ℕ) → IsTrue (is_version n) → n < 256 ^ 2
 version_is_short n h = grind (arith, nat_tests)
 
 version_number_exact : IsExact version_number
-version_number_exact = fitting_exact (λ n. IsTrue (is_version n)) (field_with_test is_version codes.version (number w16)) (λ n h. h.1) (λ n h. (version_is_short n h, h)) (tested_exact is_version codes.version (number w16) (number_exact w16 wide16))
+version_number_exact = fitting_exact (λ n. IsTrue (is_version n)) (field_with_test is_version codes.version (number w16)) (λ n h. h.1)
+    (λ n h. (version_is_short n h, h)) (tested_exact is_version codes.version (number w16) (number_exact w16 wide16))
 
 pub head_exact : IsExact head
 unfolding head
@@ -60,8 +69,13 @@ pub object_exact : IsExact object
 unfolding object
 object_exact =
     made_exact _ _ _ (λ x h. refl) (λ p h. refl)
-    (and_then_exact _ _ head_exact (λ head. both_exact _ _ (listed_exact 0 most_seeds seed (omega arith) seed_exact) (both_exact _ _ start_count_exact (and_then_exact _ _ (listed_exact 0 most_entities entity (omega arith) entity_exact) (λ entities. both_exact _ _ (listed_exact 0 most_procedures (plain procedure) (omega arith) (plain_exact procedure procedure_exact))
-    (and_then_exact _ _ (listed_exact 0 most_blocks (plain (block head.1)) (omega arith) (plain_exact (block head.1) (block_exact head.1))) (λ blocks. tables_exact head.1 (length blocks) (chains_in entities))))))))
+    (and_then_exact _ _ head_exact
+    (λ head. both_exact _ _ (listed_exact 0 most_seeds seed (omega arith) seed_exact)
+    (both_exact _ _ start_count_exact
+    (and_then_exact _ _ (listed_exact 0 most_entities entity (omega arith) entity_exact)
+    (λ entities. both_exact _ _ (listed_exact 0 most_procedures (plain procedure) (omega arith) (plain_exact procedure procedure_exact))
+    (and_then_exact _ _ (listed_exact 0 most_blocks (plain (block head.1)) (omega arith) (plain_exact (block head.1) (block_exact head.1)))
+    (λ blocks. tables_exact head.1 (length blocks) (chains_in entities))))))))
 
 -- ---- procedures
 
@@ -71,7 +85,8 @@ procedures_fit procedures limits up = fit-from_All (λ pr. ProcedureFits pr × N
 
 procedures_keep : (procedures : List Procedure) → ElementsFit (plain procedure).Fits [] procedures → All (λ pr. ProcedureFits pr × NeedsAscend pr) procedures
 unfolding procedure
-procedures_keep procedures h = All-from_fit (λ front left pr. ProcedureFits pr × NeedsAscend pr) (λ pr. ProcedureFits pr × NeedsAscend pr) (λ front left pr fit. fit) procedures [] h
+procedures_keep procedures h =
+    All-from_fit (λ front left pr. ProcedureFits pr × NeedsAscend pr) (λ pr. ProcedureFits pr × NeedsAscend pr) (λ front left pr fit. fit) procedures [] h
 
 -- ---- blocks
 
@@ -108,11 +123,21 @@ seeds_fit [] front each last = tt
 seeds_fit (zero ∷ []) front each last = absurd (last refl)
 seeds_fit (suc x ∷ []) front each last = (((omega arith, each 0 (suc x) (omega arith)), lt-ltb 0 (suc x) (omega arith)), tt)
 seeds_fit (x ∷ y ∷ ys) front each last =
-    let more : eqb (length (y ∷ ys)) 0 ≡ false = ne_eqb _ _ (λ e. omega arith) in
-    (((omega arith, each 0 x (omega arith)), rw more refl), seeds_fit (y ∷ ys) (front ++ x ∷ []) (λ k d lt. each (suc k) d (omega arith)) (λ e. last (last_of_rest x y ys ∙ e)))
+    let more : eqb (length (y ∷ ys)) 0 ≡ false = ne_eqb _ _ (λ e. omega arith) in (
+      ((omega arith, each 0 x (omega arith)), rw more refl),
+      seeds_fit (y ∷ ys) (front ++ x ∷ []) (λ k d lt. each (suc k) d (omega arith)) (λ e. last (last_of_rest x y ys ∙ e)),
+    )
 
-certificate_fits : (p : Parts) → All (IsSlopeOfVersion p.version) p.slopes → IsWithinLimits p → CertificateFits p.version (length p.blocks) (p.weights, p.slopes)
-certificate_fits p sloped limits = record { weights = limits.weights; each_weight = limits.each_weight; slopes = limits.slopes; each_slope = slopes_fit p.version p.slopes sloped limits.each_slope }
+certificate_fits : (p : Parts) → All (IsSlopeOfVersion p.version) p.slopes → IsWithinLimits p
+    → CertificateFits p.version (length p.blocks) (p.weights, p.slopes)
+certificate_fits p sloped limits =
+    record {
+      weights = limits.weights;
+      each_weight = limits.each_weight;
+      slopes = limits.slopes;
+      each_slope =
+          slopes_fit p.version p.slopes sloped limits.each_slope;
+    }
 
 pub spelled_fits : (p : Parts) → HasSpelling p → object.Fits p
 unfolding object head tables
@@ -135,7 +160,10 @@ spelled_fits p h =
                     (limits.states, rows_fit p.states limits.each_state h.canonical.each_state),
                     (
                       (limits.chain_states, rows_fit p.chain_states limits.each_chain_state h.canonical.each_chain_state),
-                      (certificate_fits p h.letters.slopes limits, (limits.chain_weights, fit-from_All weight.Fits p.chain_weights [] limits.each_chain_weight)),
+                      (
+                        certificate_fits p h.letters.slopes limits,
+                        (limits.chain_weights, fit-from_All weight.Fits p.chain_weights [] limits.each_chain_weight),
+                      ),
                     ),
                   ),
                 ),
@@ -182,7 +210,16 @@ fits_spelled p (head, (seeds, (count, (entities, (procedures, (blocks, (returns,
         each_chain_weight = All-from_fit (λ front left. weight.Fits) weight.Fits (λ front left w h. h) p.chain_weights [] chain_weights.1;
         size = size;
       };
-      canonical = record { last_seed = last_seed_is p.seeds [] seeds.2; own_names = each_entity.own; each_entity = each_entity.ascend; each_procedure = λ k d lt. (each_procedure k d lt).1; each_return = λ k d lt. (each_return k d lt).1; each_state = λ k d lt. (each_row k d lt).1; each_chain_state = λ k d lt. (each_chain_row k d lt).1 };
+      canonical = record {
+        last_seed = last_seed_is p.seeds [] seeds.2;
+        own_names = each_entity.own;
+        each_entity = each_entity.ascend;
+        each_procedure = λ k d lt. (each_procedure k d lt).1;
+        each_return = λ k d lt. (each_return k d lt).1;
+        each_state =
+            λ k d lt. (each_row k d lt).1;
+        each_chain_state = λ k d lt. (each_chain_row k d lt).1;
+      };
     }
 
 -- ---- reading as a whole
@@ -254,7 +291,8 @@ found_or bytes (Ok p) fits (inl read) = found bytes p fits (sym read)
 found_or bytes (Ok p) fits (inr full) = absurd cc
 found_or bytes (Err f) fits h = tt
 
-pub only_or : (bytes : List ℕ) (r : Result Parts Fault) → (r ≡ first_fault bytes) ⊎ (r ≡ Err out_of_memory) → (p : Parts) → Spells bytes p → (r ≡ Ok p) ⊎ (r ≡ Err out_of_memory)
+pub only_or : (bytes : List ℕ) (r : Result Parts Fault) → (r ≡ first_fault bytes) ⊎ (r ≡ Err out_of_memory) → (p : Parts) → Spells bytes p
+    → (r ≡ Ok p) ⊎ (r ≡ Err out_of_memory)
 only_or bytes r (inl read) p spelled = inl (read ∙ only bytes p spelled)
 only_or bytes r (inr full) p spelled = inr full
 
@@ -274,7 +312,8 @@ apart p q a b x y one two e =
 -- bytes that lack some of a spelling
 whole_cut : (p : Parts) → object.Fits p → CutsFronts whole_read (spelling p)
 unfolding whole_read spelling
-whole_cut p fits = cuts_still object.read (λ bytes p. cond (eqb (length p.1) 0) (Ok p.0) (Err (bad codes.trailing_bytes p.1))) (object.spell p) (object_exact.cut p fits)
+whole_cut p fits = cuts_still object.read (λ bytes p. cond (eqb (length p.1) 0) (Ok p.0) (Err (bad codes.trailing_bytes p.1)))
+    (object.spell p) (object_exact.cut p fits)
 
 cut_placed : (total : ℕ) (r : Result Parts Bad) → IsCut r → (at : ℕ) × (at ≤ total) × (with_place total r ≡ Err (fault_at codes.truncation at))
 cut_placed total (Ok p) h = absurd h
@@ -287,7 +326,8 @@ front_refused p front fits begins =
     rw short (cut_placed (length front) (whole_read front) (whole_cut p (spelled_fits p fits) front begins))
 
 -- bytes behind a spelling
-pub more_refused : (p : Parts) (more : List ℕ) → HasSpelling p → more ≢ [] → length (spelling p ++ more) ≤ most_bytes → first_fault (spelling p ++ more) ≡ Err (fault_at codes.trailing_bytes (length (spelling p)))
+pub more_refused : (p : Parts) (more : List ℕ) → HasSpelling p → more ≢ [] → length (spelling p ++ more) ≤ most_bytes
+    → first_fault (spelling p ++ more) ≡ Err (fault_at codes.trailing_bytes (length (spelling p)))
 unfolding first_fault whole_read spelling
 more_refused p more fits some size =
     let short : ltb most_bytes (length (spelling p ++ more)) ≡ false = le-ltb _ _ size in

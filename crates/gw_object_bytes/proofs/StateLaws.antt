@@ -12,12 +12,16 @@ use Rattle.gw_object.specs.declared.parts.TableParameter.{TableParameter}
 use Rattle.gw_object.specs.declared.parts.TableState.{TableState}
 use Rattle.gw_object.specs.declared.parts.ReturnRow.{ReturnRow}
 use Rattle.gw_fields.specs.Fields.{Field, number, number_between, nothing, optional, plain, list_of, ElementsFit}
-use Rattle.gw_object.specs.Grammar.{row_number, return_block, ReturnRowFits, AreAscending, return_row, TableKindFits, table_kind_spelling, table_kind_forms, table_kind_read, table_kind, ParameterFits, parameter, owned_facility, held_units, HeldFits, StateFits, IsAscending, state}
+use Rattle.gw_object.specs.Grammar.{row_number, return_block, ReturnRowFits, AreAscending, return_row, TableKindFits, table_kind_spelling}
+use Rattle.gw_object.specs.Grammar.{table_kind_forms, table_kind_read, table_kind, ParameterFits, parameter, owned_facility, held_units, HeldFits}
+use Rattle.gw_object.specs.Grammar.{StateFits, IsAscending, state}
 use Rattle.gw_blocks.specs.Grammar.{entity_number, block_number, parameter_number}
 use Rattle.gw_block_bytes.proofs.BlockLaws.{entity_number_exact, block_number_exact, parameter_number_exact}
 use Rattle.gw_field_bytes.proofs.AboveLast.{above_last_exact, above_last_fit, above_last_ascends}
 use Rattle.gw_field_bytes.proofs.Ascending.{ascending_exact, nat_order, ascends, ascending_fit}
-use Rattle.gw_field_bytes.proofs.Exact.{ReadsBack, ◌also◌, tag_reads_back, AreExactForms, behind_exact, by_tag_exact, IsExact, IsExactElement, plain_exact, wide16, wide32, number_exact, made_exact, both_exact, fitting_exact, ranged_exact, nothing_exact, listed_exact, All-from_fit, fit-from_All}
+use Rattle.gw_field_bytes.proofs.Exact.{ReadsBack, ◌also◌, tag_reads_back, AreExactForms, behind_exact, by_tag_exact, IsExact, IsExactElement}
+use Rattle.gw_field_bytes.proofs.Exact.{plain_exact, wide16, wide32, number_exact, made_exact, both_exact, fitting_exact, ranged_exact, nothing_exact}
+use Rattle.gw_field_bytes.proofs.Exact.{listed_exact, All-from_fit, fit-from_All}
 
 -- ---- states
 
@@ -55,23 +59,36 @@ abbrev held_number : Field ℕ
 held_number = number_between 1 greatest_units (number w32)
 
 parameter_exact : IsExactElement parameter
-parameter_exact = ascending_exact nat_lt parameter_of number_and_kind parameter_number table_kind (λ x. refl) (λ p. refl) parameter_number_exact table_kind_exact
+parameter_exact = ascending_exact nat_lt parameter_of number_and_kind parameter_number table_kind (λ x. refl) (λ p. refl)
+    parameter_number_exact table_kind_exact
 
 held_exact : IsExactElement held_units
-held_exact = ascending_exact nat_lt units_of entity_and_number entity_number held_number (λ x. refl) (λ u. refl) entity_number_exact (ranged_exact 1 greatest_units (number w32) (λ n h. omega arith) (number_exact w32 wide32))
+held_exact = ascending_exact nat_lt units_of entity_and_number entity_number held_number (λ x. refl) (λ u. refl) entity_number_exact
+    (ranged_exact 1 greatest_units (number w32) (λ n h. omega arith) (number_exact w32 wide32))
 
 -- the lists of a state
 abbrev StateLists : TableState → Type 0
 StateLists s =
     ((0 ≤ length s.parameters) × (length s.parameters ≤ most_parameters) × ElementsFit parameter.Fits [] s.parameters)
-    × (((0 ≤ length s.facilities) × (length s.facilities ≤ most_entities) × ElementsFit owned_facility.Fits [] s.facilities) × ((0 ≤ length s.units) × (length s.units ≤ most_entities) × ElementsFit held_units.Fits [] s.units))
+    × (((0 ≤ length s.facilities) × (length s.facilities ≤ most_entities) × ElementsFit owned_facility.Fits [] s.facilities)
+    × ((0 ≤ length s.units) × (length s.units ≤ most_entities) × ElementsFit held_units.Fits [] s.units))
 
 state_lists : (s : TableState) → StateFits s × IsAscending s → StateLists s
 state_lists s h = (
-  (omega arith, h.0.parameters, ascending_fit nat_order parameter_of number_and_kind parameter_number table_kind s.parameters [] (λ k d lt. (h.0.each_parameter k d lt).number) (λ k d lt. (h.0.each_parameter k d lt).kind) h.1.parameters),
+  (
+    omega arith,
+    h.0.parameters,
+    ascending_fit nat_order parameter_of number_and_kind parameter_number table_kind s.parameters []
+        (λ k d lt. (h.0.each_parameter k d lt).number) (λ k d lt. (h.0.each_parameter k d lt).kind) h.1.parameters,
+  ),
   (
     (omega arith, h.0.facilities, above_last_fit entity_number s.facilities h.0.each_facility h.1.facilities),
-    (omega arith, h.0.units, ascending_fit nat_order units_of entity_and_number entity_number held_number s.units [] (λ k d lt. (h.0.each_unit k d lt).entity) (λ k d lt. ((h.0.each_unit k d lt).least, (h.0.each_unit k d lt).most)) h.1.units),
+    (
+      omega arith,
+      h.0.units,
+      ascending_fit nat_order units_of entity_and_number entity_number held_number s.units [] (λ k d lt. (h.0.each_unit k d lt).entity)
+          (λ k d lt. ((h.0.each_unit k d lt).least, (h.0.each_unit k d lt).most)) h.1.units,
+    ),
   ),
 )
 
@@ -86,7 +103,8 @@ state_keeps s (parameters, (facilities, units)) = (
     each_unit = All-from_fit held_units.Fits HeldFits (λ front left u fit. record { entity = fit.0.0; least = fit.1.0; most = fit.1.1 }) s.units [] units.2;
   },
   record {
-    parameters = ascends nat_order parameter_of number_and_kind parameter_number table_kind s.parameters [] (λ i j d lt in_none. absurd (omega arith)) parameters.2;
+    parameters = ascends nat_order parameter_of number_and_kind parameter_number table_kind s.parameters []
+        (λ i j d lt in_none. absurd (omega arith)) parameters.2;
     facilities = above_last_ascends entity_number s.facilities facilities.2;
     units = ascends nat_order units_of entity_and_number entity_number held_number s.units [] (λ i j d lt in_none. absurd (omega arith)) units.2;
   },
@@ -95,7 +113,10 @@ state_keeps s (parameters, (facilities, units)) = (
 pub state_exact : IsExact state
 unfolding state
 state_exact = fitting_exact (λ s. StateFits s × IsAscending s) _ state_keeps state_lists
-    (made_exact _ _ _ (λ x h. refl) (λ s h. refl) (both_exact _ _ (listed_exact 0 most_parameters parameter (omega arith) parameter_exact) (both_exact _ _ (listed_exact 0 most_entities owned_facility (omega arith) (above_last_exact entity_number entity_number_exact)) (listed_exact 0 most_entities held_units (omega arith) held_exact))))
+    (made_exact _ _ _ (λ x h. refl) (λ s h. refl)
+    (both_exact _ _ (listed_exact 0 most_parameters parameter (omega arith) parameter_exact)
+    (both_exact _ _ (listed_exact 0 most_entities owned_facility (omega arith) (above_last_exact entity_number entity_number_exact))
+    (listed_exact 0 most_entities held_units (omega arith) held_exact))))
 
 -- ---- return rows
 
@@ -126,7 +147,8 @@ return_rows_fit rows limits up = fit-from_All (λ row. ReturnRowFits row × AreA
 
 pub return_rows_keep : (rows : List ReturnRow) → ElementsFit (plain return_row).Fits [] rows → All (λ row. ReturnRowFits row × AreAscending row) rows
 unfolding return_row
-return_rows_keep rows h = All-from_fit (λ front left row. ReturnRowFits row × AreAscending row) (λ row. ReturnRowFits row × AreAscending row) (λ front left row fit. fit) rows [] h
+return_rows_keep rows h =
+    All-from_fit (λ front left row. ReturnRowFits row × AreAscending row) (λ row. ReturnRowFits row × AreAscending row) (λ front left row fit. fit) rows [] h
 
 -- ---- the rows of the state table
 
@@ -140,8 +162,11 @@ unfolding state
 table_row_keeps None h = (tt, tt)
 table_row_keeps (Some s) h = h
 
-pub rows_fit : (rows : List (Option TableState)) → All (λ row. IfSome row StateFits) rows → All (λ row. IfSome row IsAscending) rows → ElementsFit (plain (optional state)).Fits [] rows
+pub rows_fit : (rows : List (Option TableState)) → All (λ row. IfSome row StateFits) rows → All (λ row. IfSome row IsAscending) rows
+    → ElementsFit (plain (optional state)).Fits [] rows
 rows_fit rows limits up = fit-from_All (optional state).Fits rows [] (λ k d lt. table_row_fits (get_or rows k d) (limits k d lt) (up k d lt))
 
-pub rows_keep : (rows : List (Option TableState)) → ElementsFit (plain (optional state)).Fits [] rows → All (λ row. IfSome row StateFits × IfSome row IsAscending) rows
-rows_keep rows h = All-from_fit (λ front left. (optional state).Fits) (λ row. IfSome row StateFits × IfSome row IsAscending) (λ front left. table_row_keeps) rows [] h
+pub rows_keep : (rows : List (Option TableState)) → ElementsFit (plain (optional state)).Fits [] rows
+    → All (λ row. IfSome row StateFits × IfSome row IsAscending) rows
+rows_keep rows h = All-from_fit (λ front left. (optional state).Fits) (λ row. IfSome row StateFits × IfSome row IsAscending)
+    (λ front left. table_row_keeps) rows [] h

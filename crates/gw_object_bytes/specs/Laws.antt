@@ -32,4 +32,5 @@ FrontsAreTruncated = (p : Parts) (front : List ℕ) → HasSpelling p → IsProp
 
 -- a spelling with more behind it is refused as trailing at the first byte of that, where there aren't too many bytes in all
 abbrev pub MoreIsTrailing : Type 0
-MoreIsTrailing = (p : Parts) (more : List ℕ) → HasSpelling p → more ≢ [] → length (spelling p ++ more) ≤ most_bytes → first_fault (spelling p ++ more) ≡ Err (fault_at trailing_bytes (length (spelling p)))
+MoreIsTrailing = (p : Parts) (more : List ℕ) → HasSpelling p → more ≢ [] → length (spelling p ++ more) ≤ most_bytes
+    → first_fault (spelling p ++ more) ≡ Err (fault_at trailing_bytes (length (spelling p)))

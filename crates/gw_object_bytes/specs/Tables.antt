@@ -18,8 +18,10 @@ sloped_spelling version weights slopes = flat_map (sloped_weight version).spell 
 
 -- the bytes that spell the return rows, the rows of the state table, the weights of blocks with their slopes, and those of user chains
 abbrev pub tables_spelling : Parts → List ℕ
-tables_spelling p = (tables p.version (length p.blocks) (chains_in p.entities)).spell (p.returns, (p.states, (p.chain_states, ((p.weights, p.slopes), p.chain_weights))))
+tables_spelling p = (tables p.version (length p.blocks) (chains_in p.entities)).spell
+    (p.returns, (p.states, (p.chain_states, ((p.weights, p.slopes), p.chain_weights))))
 
 -- the bytes that spell the entities, procedures and blocks, and what stands behind them
 abbrev pub lists_spelling : Parts → List ℕ
-lists_spelling p = list_spelling entity.spell p.entities ++ (list_spelling procedure.spell p.procedures ++ (list_spelling (block p.version).spell p.blocks ++ tables_spelling p))
+lists_spelling p = list_spelling entity.spell p.entities
+    ++ (list_spelling procedure.spell p.procedures ++ (list_spelling (block p.version).spell p.blocks ++ tables_spelling p))

@@ -34,7 +34,8 @@ of_one procedures word operand = None
 -- a table, with this argument
 abbrev pub table_of : Option Operand → Text → Text → Text → Option Kind
 table_of argument limit width classes =
-    option_and_then (λ a. of_three (λ l w c. kinds.Table (record { argument = a; limit = l; width = w; classes = c })) (whole_in (pos 0) limit) (number_in 4294967295 width) (number_in 65535 classes))
+    option_and_then (λ a. of_three (λ l w c. kinds.Table (record { argument = a; limit = l; width = w; classes = c }))
+    (whole_in (pos 0) limit) (number_in 4294967295 width) (number_in 65535 classes))
     argument
 
 -- a function, with this argument

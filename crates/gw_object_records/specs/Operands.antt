@@ -1,5 +1,6 @@
 -- What the operands of a statement become, where names have these numbers; nothing where a name isn't known, or an operand has a form that doesn't stand there.
-use Rattle.std.specs.Prelude.{ℕ, List, Option, Some, None, Bool, true, false, ℤ, pos, negsuc, if◌then◌else◌, nat_le, int_le, ◌&&◌, slice_get, option_map, option_and_then, string_bytes, codes}
+use Rattle.std.specs.Prelude.{ℕ, List, Option, Some, None, Bool, true, false, ℤ, pos, negsuc, if◌then◌else◌, nat_le, int_le, ◌&&◌, slice_get}
+use Rattle.std.specs.Prelude.{option_map, option_and_then, string_bytes, codes}
 use Rattle.std.specs.Option.{option_flatten}
 use Rattle.std.specs.Str.{bytes_eq}
 use Rattle.gw_blocks.specs.declared.parts.Operand.{Operand}

@@ -29,7 +29,8 @@ use Rattle.gw_text_statements.specs.declared.model.Switching.TheVariants as swit
 use Rattle.gw_text.specs.declared.model.Statement.{Statement}
 use Rattle.gw_compile.specs.Numbers.{Numbers}
 use Rattle.gw_object_records.specs.declared.blocks.Reading.{Reading}
-use Rattle.gw_object_records.specs.Operands.{value_in, procedure_at, entity_in, block_in, optional_block_in, priority_in, count_in, optional_whole_in, optional_count_in, parameter_in, optional_parameter_in, mode_in, order_in, is_written}
+use Rattle.gw_object_records.specs.Operands.{value_in, procedure_at, entity_in, block_in, optional_block_in, priority_in, count_in, optional_whole_in}
+use Rattle.gw_object_records.specs.Operands.{optional_count_in, parameter_in, optional_parameter_in, mode_in, order_in, is_written}
 
 -- WHAT IS MADE OF PARTS
 
@@ -82,7 +83,8 @@ by_reading numbers reading make = make (numbers reading.names.now) reading.proce
 -- GENERATE, with this interval
 abbrev pub generate_of : Option Spread → Text → Text → Text → Option Block
 generate_of interval first limit priority =
-    option_and_then (λ i. of_three (λ f l p. blocks.Generate (record { interval = i; first = f; limit = l; priority = p })) (optional_whole_in first) (optional_count_in limit) (priority_in priority))
+    option_and_then (λ i. of_three (λ f l p. blocks.Generate (record { interval = i; first = f; limit = l; priority = p }))
+    (optional_whole_in first) (optional_count_in limit) (priority_in priority))
     interval
 
 module _ (n : Numbers) where

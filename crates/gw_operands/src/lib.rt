@@ -10,7 +10,7 @@ mod results;
 pub use asking::{Asked, asks_for, parameters_asked, procedure_at};
 pub use ends::PlusEnd;
 pub use evaluation::{
-    Operands, argument_in, as_operand, evaluation_operands, is_drawn, operand_at, operand_of, source_of,
-    values,
+    Operands, argument_in, as_operand, evaluation_operands, is_drawn, operand_at, operand_of,
+    source_of, values,
 };
 pub use results::operand_value;

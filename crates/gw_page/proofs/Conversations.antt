@@ -35,7 +35,8 @@ called old new before after none x =
 
 -- a connection that was new has had a conversation
 pub conversed : (unread left written told : Option (List ℕ)) (first last : Connection) (given : Config)
-    → config_of first ≡ given → config_of last ≡ config_of first → given.max_body_len ≡ 1048576 → given.limits.max_head_len ≡ 16384 → history first ≡ new_history
+    → config_of first ≡ given → config_of last ≡ config_of first → given.max_body_len ≡ 1048576 → given.limits.max_head_len ≡ 16384
+    → history first ≡ new_history
     → ((more : List ℕ) × Consumes unread left more × ((history last).received ≡ (history first).received ++ more))
     → ((more : List ℕ) × Appends written told more × ((history last).sent ≡ (history first).sent ++ more))
     → All (λ call. Answers call.0 call.1) (history last).calls → IsConversation unread left written told

@@ -1,5 +1,6 @@
 -- What a run has of the limits.
-use Rattle.std.proofs.Common.{◌≡◌, ◌≤◌, ◌<◌, ◌∙◌, ℕ, ◌+◌, List, [], ◌∷◌, ◌++◌, length, take, All, Any, Bool, true, false, Result, Ok, Err, IfOk, inl, ap, sym, subst, slice_index_or}
+use Rattle.std.proofs.Common.{◌≡◌, ◌≤◌, ◌<◌, ◌∙◌, ℕ, ◌+◌, List, [], ◌∷◌, ◌++◌, length, take, All, Any, Bool, true, false, Result, Ok, Err, IfOk, inl}
+use Rattle.std.proofs.Common.{ap, sym, subst, slice_index_or}
 use Rattle.std.proofs.lemmas.List.{take_all, take_more}
 use Rattle.std.proofs.lemmas.List.Elements.{All-append, All-cons, All-nil}
 use Rattle.gw_alternatives.specs.declared.alternative.Alternative.{Alternative}
@@ -17,10 +18,12 @@ shared number steps numbers j job (Ok false) is few h = inl (subst (λ x. TakesM
 shared number steps numbers j job (Err e) is few h = tt
 
 -- one point with less, or all with theirs
-pub one : (P : Alternative → Type 0) (points : List Alternative) (i : ℕ) (a : Alternative) → i < length points → a ≡ slice_index_or points i a → P a → Any P points
+pub one : (P : Alternative → Type 0) (points : List Alternative) (i : ℕ) (a : Alternative) → i < length points → a
+    ≡ slice_index_or points i a → P a → Any P points
 one P points i a within at h = (i, a, within, sym at, h)
 
-pub more : (P : Alternative → Type 0) (points : List Alternative) (i : ℕ) (a : Alternative) → i < length points → a ≡ slice_index_or points i a → All P (take i points) → P a
+pub more : (P : Alternative → Type 0) (points : List Alternative) (i : ℕ) (a : Alternative) → i < length points → a
+    ≡ slice_index_or points i a → All P (take i points) → P a
     → All P (take (i + 1) points)
 more P points i a within at before h =
     subst (λ xs. All P xs) (sym (take_more points i a within ∙ ap (λ (y : Alternative). take i points ++ y ∷ []) (sym at)))

@@ -55,13 +55,15 @@ module _ (n : Numbers) (ss : List Statement) where
   pub none_yet : AreCompiled n ss [] []
   none_yet = record { all = refl; each = λ q origin h. absurd cc }
 
-  pub one_more : (order : List Origin) (procedures : List Procedure) (origin : Origin) (pr : Procedure) → AreCompiled n ss order procedures → ComesFrom n ss procedures origin pr → AreCompiled n ss (order ++ origin ∷ []) (procedures ++ pr ∷ [])
+  pub one_more : (order : List Origin) (procedures : List Procedure) (origin : Origin) (pr : Procedure) → AreCompiled n ss order procedures
+      → ComesFrom n ss procedures origin pr → AreCompiled n ss (order ++ origin ∷ []) (procedures ++ pr ∷ [])
   one_more order procedures origin pr before here = record {
     all = length-append procedures (pr ∷ []) ∙ ap (λ k. k + 1) before.all ∙ sym (length-append order (origin ∷ []));
     each = λ q o h. at q o (grown order origin o q h);
   }
     where
-      at : (q : ℕ) (o : Origin) → (slice_get order q ≡ Some o) ⊎ ((q ≡ length order) × (origin ≡ o)) → (x : Procedure) × (slice_get (procedures ++ pr ∷ []) q ≡ Some x) × ComesFrom n ss (take q (procedures ++ pr ∷ [])) o x
+      at : (q : ℕ) (o : Origin) → (slice_get order q ≡ Some o) ⊎ ((q ≡ length order) × (origin ≡ o)) → (x : Procedure)
+          × (slice_get (procedures ++ pr ∷ []) q ≡ Some x) × ComesFrom n ss (take q (procedures ++ pr ∷ [])) o x
       at q o (inl h) =
           let c = before.each q o h in
           (c.0, still procedures pr c.0 q c.1, subst (λ ps. ComesFrom n ss ps o c.0) (sym (take_still procedures pr c.0 q c.1)) c.2)
@@ -74,15 +76,18 @@ module _ (n : Numbers) (ss : List Statement) where
           )
 
   -- what comes from a position of the statement of an origin comes from the origin
-  pub comes_from : (origin : Origin) (s : Statement) → slice_get ss origin.statement ≡ Some s → (old new : List Procedure) → Grows (IsProcedureOf n old s origin.operand) old new → Grows (ComesFrom n ss old origin) old new
+  pub comes_from : (origin : Origin) (s : Statement) → slice_get ss origin.statement ≡ Some s → (old new : List Procedure)
+      → Grows (IsProcedureOf n old s origin.operand) old new → Grows (ComesFrom n ss old origin) old new
   comes_from origin s there old new g = (g.0, record { statement = s; there = there; compiled = g.1 }, g.2)
 
   -- the procedures of the origins up to a place, and of the next one
-  pub one_further_compiled : (order : List Origin) (i : ℕ) (origin : Origin) → slice_get order i ≡ Some origin → (old new : List Procedure) → AreCompiled n ss (take i order) old → Grows (ComesFrom n ss old origin) old new → AreCompiled n ss (take (i + 1) order) new
+  pub one_further_compiled : (order : List Origin) (i : ℕ) (origin : Origin) → slice_get order i ≡ Some origin → (old new : List Procedure)
+      → AreCompiled n ss (take i order) old → Grows (ComesFrom n ss old origin) old new → AreCompiled n ss (take (i + 1) order) new
   one_further_compiled order i origin there old new before g =
       let next : suc i ≡ i + 1 = omega arith in
       let is : take (i + 1) order ≡ take i order ++ origin ∷ [] = ap (λ k. take k order) (sym next) ∙ one_further order i origin there in
-      subst (λ o. AreCompiled n ss o new) (sym is) (subst (λ ps. AreCompiled n ss (take i order ++ origin ∷ []) ps) (sym g.2) (one_more (take i order) old origin g.0 before g.1))
+      subst (λ o. AreCompiled n ss o new) (sym is)
+      (subst (λ ps. AreCompiled n ss (take i order ++ origin ∷ []) ps) (sym g.2) (one_more (take i order) old origin g.0 before g.1))
 
 -- LIMITS
 

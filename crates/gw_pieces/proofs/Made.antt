@@ -67,7 +67,8 @@ sighted_are n order ss (s ∷ sighted) (k ∷ ks) (e ∷ es) keys declared h =
     (record { name = h.0.name ∙ name; kind = of_name }, sighted_are n order ss sighted ks es others rest h.1)
 
 -- names have the numbers that the text gives them
-pub names_are : (ss : List Statement) (order : List Origin) (known : Known) (meanings : Meanings) (list : Vec Entity Global) → Knows ss known → order ≡ order_in ss → AreMeanings ss order meanings
+pub names_are : (ss : List Statement) (order : List Origin) (known : Known) (meanings : Meanings) (list : Vec Entity Global)
+    → Knows ss known → order ≡ order_in ss → AreMeanings ss order meanings
     → NumbersText (numbers_of (names_by known meanings list)) order ss
 names_are ss order known meanings list knows is meant = record {
   ordered = is;
@@ -99,12 +100,16 @@ module _ (plan : Plan) (made : Vec Entity Global) where
   }
 
   -- where these are the entities that names get
-  pub gets_entities : (given : Vec Entity Global) → made ≡ given → (planned : IsPlan (text_planned plan) (record plan.names { list = made }) (order_planned plan) plan.sighted.items) → GetsEntities plan given (with_entities plan made planned)
+  pub gets_entities : (given : Vec Entity Global) → made ≡ given
+      → (planned : IsPlan (text_planned plan) (record plan.names { list = made }) (order_planned plan) plan.sighted.items)
+      → GetsEntities plan given (with_entities plan made planned)
   gets_entities given is planned = subst (λ (v : Vec Entity Global). GetsEntities plan v (with_entities plan made planned)) is (planned, refl)
 
   -- what is made by a plan that gets its entities is what the statements become
-  pub are_made : (procedures : List Procedure) (blocks : List Block) → AreSightedAs (names_planned plan) (order_planned plan) (text_planned plan) plan.sighted.items made.items
-      → HasCode (with_source (names_planned plan) sources) (order_planned plan) (text_planned plan) procedures blocks → AreMade (text_planned plan) made.items procedures blocks
+  pub are_made : (procedures : List Procedure) (blocks : List Block)
+      → AreSightedAs (names_planned plan) (order_planned plan) (text_planned plan) plan.sighted.items made.items
+      → HasCode (with_source (names_planned plan) sources) (order_planned plan) (text_planned plan) procedures blocks
+      → AreMade (text_planned plan) made.items procedures blocks
   are_made procedures blocks sighted code =
       let n = with_source (names_planned plan) sources in
       let order = order_planned plan in
@@ -114,13 +119,15 @@ module _ (plan : Plan) (made : Vec Entity Global) where
         order = order;
         names = planned_still.numbers;
         sources = λ of. refl;
-        each_entity = sighted_are n order ss plan.sighted.items (entities_of ss) made.items plan.planned.keys plan.planned.declared (resourced (names_planned plan) sources order ss plan.sighted.items made.items sighted);
+        each_entity = sighted_are n order ss plan.sighted.items (entities_of ss) made.items plan.planned.keys plan.planned.declared
+            (resourced (names_planned plan) sources order ss plan.sighted.items made.items sighted);
         code = code;
       }
 
   -- and what is noted is what they lack
   pub notes_are : (a b c : Option Noted) → NotesMissing (EntityMissing (names_planned plan) (order_planned plan) (text_planned plan) plan.sighted.items) a b
-      → NotesCode (with_source (names_planned plan) sources) (order_planned plan) (text_planned plan) (CodeOrBlockMissing (with_source (names_planned plan) sources) (order_planned plan) (text_planned plan)) b c
+      → NotesCode (with_source (names_planned plan) sources) (order_planned plan) (text_planned plan)
+      (CodeOrBlockMissing (with_source (names_planned plan) sources) (order_planned plan) (text_planned plan)) b c
       → NotesPieces (text_planned plan) a c
   notes_are a b c entities code =
       let n = with_source (names_planned plan) sources in

@@ -14,11 +14,14 @@ use Rattle.gw_names.specs.Places.{is_equ, label_of, name_entry, last_of, equ_num
 use Rattle.gw_names.proofs.Declaring.{last_append, comes}
 use Rattle.gw_pieces.proofs.Walks.{split_at}
 use Rattle.gw_pieces.specs.declared.origins.Origin.{Origin}
-use Rattle.gw_pieces.specs.Naming.{number_at, entries_from, callee_of_body, callee_of_statement, callee_of_origin, callee_of, equ_of_body, equ_of_statement, equ_of_origin, equ_by_number, equ_of_number, equ_meant, StandsAt, IsCallee, IsMeant}
+use Rattle.gw_pieces.specs.Naming.{number_at, entries_from, callee_of_body, callee_of_statement, callee_of_origin, callee_of, equ_of_body}
+use Rattle.gw_pieces.specs.Naming.{equ_of_statement, equ_of_origin, equ_by_number, equ_of_number, equ_meant, StandsAt, IsCallee, IsMeant}
 
 -- what the next one gives comes
-pub entries_step : {A X : Type 0} (entry : A → ℕ → List (List ℕ × X)) (xs : List A) (i : ℕ) (x : A) (name : List ℕ) (before after total : Option X) → slice_get xs i ≡ Some x
-    → after ≡ option_or (last_of (entry x i) name) before → total ≡ option_or (last_of (entries_from entry i (drop i xs)) name) before → total ≡ option_or (last_of (entries_from entry (i + 1) (drop (i + 1) xs)) name) after
+pub entries_step : {A X : Type 0} (entry : A → ℕ → List (List ℕ × X)) (xs : List A) (i : ℕ) (x : A) (name : List ℕ)
+    (before after total : Option X) → slice_get xs i ≡ Some x
+    → after ≡ option_or (last_of (entry x i) name) before → total ≡ option_or (last_of (entries_from entry i (drop i xs)) name) before
+    → total ≡ option_or (last_of (entries_from entry (i + 1) (drop (i + 1) xs)) name) after
 entries_step entry xs i x name before after total at adds so_far =
     so_far
     ∙ ap (λ l. option_or (last_of (entries_from entry i l) name) before) (split_at xs i x at)
@@ -60,26 +63,41 @@ single name own v x h = cases (bytes_eq name own)
     (λ no. let e = rw no at h in absurd cc)
 
 module _ (ss : List Statement) (order : List Origin) where
-  of_body : (name : List ℕ) (c : Callee) (place : ℕ) (s : Statement) (b : Body) → s.body ≡ b → StandsAt ss order place s → last_of (callee_of_body b place) name ≡ Some c → IsCallee ss order name c
+  of_body : (name : List ℕ) (c : Callee) (place : ℕ) (s : Statement) (b : Body) → s.body ≡ b → StandsAt ss order place s
+      → last_of (callee_of_body b place) name ≡ Some c → IsCallee ss order name c
   of_body name c place s (bodies.Procedure pr) is stands h =
       let e = single name (string_bytes pr.name) _ c h in
-      record { place = place; statement = s; procedure = pr; stands = stands; body = is; called = e.0; number = sym (ap (λ (x : Callee). x.number) e.1); arguments = sym (ap (λ (x : Callee). x.arguments) e.1) }
+      record {
+        place = place;
+        statement = s;
+        procedure = pr;
+        stands = stands;
+        body = is;
+        called = e.0;
+        number =
+            sym (ap (λ (x : Callee). x.number) e.1);
+        arguments = sym (ap (λ (x : Callee). x.arguments) e.1);
+      }
   of_body name c place s bodies.Nothing is stands h = absurd cc
   of_body name c place s (bodies.Points points) is stands h = absurd cc
 
-  of_origin : (name : List ℕ) (c : Callee) (place : ℕ) (o : Origin) → slice_get order place ≡ Some o → (there : Option Statement) → slice_get ss o.statement ≡ there → last_of (callee_of_statement there place) name ≡ Some c → IsCallee ss order name c
+  of_origin : (name : List ℕ) (c : Callee) (place : ℕ) (o : Origin) → slice_get order place ≡ Some o → (there : Option Statement)
+      → slice_get ss o.statement ≡ there → last_of (callee_of_statement there place) name ≡ Some c → IsCallee ss order name c
   of_origin name c place o at None is h = absurd cc
   of_origin name c place o at (Some s) is h = of_body name c place s s.body refl (record { origin = o; there = at; statement = is }) h
 
   -- what a name stands for is a PROCEDURE
   pub callee_is : (name : List ℕ) (c : Callee) → callee_of ss order name ≡ Some c → IsCallee ss order name c
-  callee_is name c h = found_among (callee_of_origin ss) (IsCallee ss order) name c 0 order h (λ j o at is. of_origin name c j o at (slice_get ss o.statement) refl (subst (λ k. last_of (callee_of_origin ss o k) name ≡ Some c) (none_before j) is))
+  callee_is name c h = found_among (callee_of_origin ss) (IsCallee ss order) name c 0 order h
+      (λ j o at is. of_origin name c j o at (slice_get ss o.statement) refl (subst (λ k. last_of (callee_of_origin ss o k) name ≡ Some c) (none_before j) is))
 
-  by_label : (name : List ℕ) (q : ℕ) (e : Equ) (label : Option (List ℕ)) → last_of (name_entry label (Procedure q)) name ≡ Some e → (label ≡ Some name) × (Procedure q ≡ e)
+  by_label : (name : List ℕ) (q : ℕ) (e : Equ) (label : Option (List ℕ)) → last_of (name_entry label (Procedure q)) name ≡ Some e
+      → (label ≡ Some name) × (Procedure q ≡ e)
   by_label name q e None h = absurd cc
   by_label name q e (Some own) h = let x = single name own (Procedure q) e h in (ap Some x.0, x.1)
 
-  equ_in_body : (name : List ℕ) (e : Equ) (place : ℕ) (s : Statement) (b : Body) → s.body ≡ b → StandsAt ss order place s → last_of (equ_of_body b s place) name ≡ Some e → IsMeant ss order name e
+  equ_in_body : (name : List ℕ) (e : Equ) (place : ℕ) (s : Statement) (b : Body) → s.body ≡ b → StandsAt ss order place s
+      → last_of (equ_of_body b s place) name ≡ Some e → IsMeant ss order name e
   equ_in_body name e place s (bodies.Procedure pr) is stands h = absurd cc
   equ_in_body name e place s (bodies.Points points) is stands h = absurd cc
   equ_in_body name e place s bodies.Nothing is stands h = cases (is_equ s.word)
@@ -88,21 +106,25 @@ module _ (ss : List Statement) (order : List Origin) where
       subst (IsMeant ss order name) x.1 (record { place = place; statement = s; stands = stands; body = is; word = yes; label = x.0; number = refl }))
       (λ no. let x = rw no at h in absurd cc)
 
-  equ_in_origin : (name : List ℕ) (e : Equ) (place : ℕ) (o : Origin) → slice_get order place ≡ Some o → (there : Option Statement) → slice_get ss o.statement ≡ there → last_of (equ_of_statement there place) name ≡ Some e → IsMeant ss order name e
+  equ_in_origin : (name : List ℕ) (e : Equ) (place : ℕ) (o : Origin) → slice_get order place ≡ Some o → (there : Option Statement)
+      → slice_get ss o.statement ≡ there → last_of (equ_of_statement there place) name ≡ Some e → IsMeant ss order name e
   equ_in_origin name e place o at None is h = absurd cc
   equ_in_origin name e place o at (Some s) is h = equ_in_body name e place s s.body refl (record { origin = o; there = at; statement = is }) h
 
-  number_by : (name own : List ℕ) (z : Option ℤ) (e : Equ) → equ_number_of ss own ≡ z → last_of (equ_by_number (Some own) z) name ≡ Some e → IsMeant ss order name e
+  number_by : (name own : List ℕ) (z : Option ℤ) (e : Equ) → equ_number_of ss own ≡ z → last_of (equ_by_number (Some own) z) name ≡ Some e
+      → IsMeant ss order name e
   number_by name own None e is h = absurd cc
   number_by name own (Some z) e is h =
       let x = single name own (Number z) e h in
       subst (IsMeant ss order name) x.1 (subst (λ y. equ_number_of ss y ≡ Some z) x.0 is)
 
-  number_in : (name : List ℕ) (e : Equ) (label : Option (List ℕ)) → last_of (equ_by_number label (option_and_then (equ_number_of ss) label)) name ≡ Some e → IsMeant ss order name e
+  number_in : (name : List ℕ) (e : Equ) (label : Option (List ℕ))
+      → last_of (equ_by_number label (option_and_then (equ_number_of ss) label)) name ≡ Some e → IsMeant ss order name e
   number_in name e None h = absurd cc
   number_in name e (Some own) h = number_by name own (equ_number_of ss own) e refl h
 
-  number_of_statement : (name : List ℕ) (e : Equ) (s : Statement) (i : ℕ) → last_of (equ_of_number (equ_number_of ss) s i) name ≡ Some e → IsMeant ss order name e
+  number_of_statement : (name : List ℕ) (e : Equ) (s : Statement) (i : ℕ) → last_of (equ_of_number (equ_number_of ss) s i) name ≡ Some e
+      → IsMeant ss order name e
   number_of_statement name e s i h = cases (is_equ s.word)
       (λ yes. number_in name e (label_of s) (rw yes at h))
       (λ no. let x = rw no at h in absurd cc)
@@ -111,4 +133,6 @@ module _ (ss : List Statement) (order : List Origin) where
   pub equ_is : (name : List ℕ) (e : Equ) → equ_meant ss order name ≡ Some e → IsMeant ss order name e
   equ_is name e h = either (last_of (entries_from (equ_of_number (equ_number_of ss)) 0 ss) name) (last_of (entries_from (equ_of_origin ss) 0 order) name) e h
       (λ number. found_among (equ_of_number (equ_number_of ss)) (IsMeant ss order) name e 0 ss number (λ j s at is. number_of_statement name e s j is))
-      (λ procedure. found_among (equ_of_origin ss) (IsMeant ss order) name e 0 order procedure (λ j o at is. equ_in_origin name e j o at (slice_get ss o.statement) refl (subst (λ k. last_of (equ_of_origin ss o k) name ≡ Some e) (none_before j) is)))
+      (λ procedure. found_among (equ_of_origin ss) (IsMeant ss order) name e 0 order procedure
+      (λ j o at is. equ_in_origin name e j o at (slice_get ss o.statement) refl
+      (subst (λ k. last_of (equ_of_origin ss o k) name ≡ Some e) (none_before j) is)))

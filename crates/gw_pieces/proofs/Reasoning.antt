@@ -1,5 +1,6 @@
 -- The reasons of refusals, from pass to pass.
-use Rattle.std.proofs.Common.{◌≡◌, ◌∙◌, ◌<◌, ◌+◌, ℕ, zero, suc, List, [], ◌∷◌, length, map, Option, Some, None, Bool, true, false, inl, inr, slice_get, refl, sym, ap, subst, arith}
+use Rattle.std.proofs.Common.{◌≡◌, ◌∙◌, ◌<◌, ◌+◌, ℕ, zero, suc, List, [], ◌∷◌, length, map, Option, Some, None, Bool, true, false, inl, inr}
+use Rattle.std.proofs.Common.{slice_get, refl, sym, ap, subst, arith}
 use Rattle.std.specs.Prelude.{if◌then◌else◌, ◌⊎◌, ◌≤◌, min}
 use Rattle.gw_object.specs.declared.limits.TheConstants.{MOST_PROCEDURES}
 use Rattle.std.specs.Option.{option_or}
@@ -19,13 +20,15 @@ use Rattle.gw_blocks.specs.declared.parts.Operand.{Operand}
 use Rattle.gw_pieces.specs.Numbers.{with_source}
 use Rattle.gw_pieces.specs.declared.origins.Origin.{Origin}
 use Rattle.gw_pieces.specs.Notes.{Never, IsFor, NotesMore, NotesMissing}
-use Rattle.gw_pieces.specs.Reasons.{AllThere, IsOrigin, IsSightedAt, IsDeclaration, ExceedsKnown, OriginDue, OriginMissing, BlockMissing, CodeLimit, CodeDue, ProcedureMissing, CodeOrBlockMissing, DeclarationMissing, EntityMissing, AnyMissing, PieceMissing}
+use Rattle.gw_pieces.specs.Reasons.{AllThere, IsOrigin, IsSightedAt, IsDeclaration, ExceedsKnown, OriginDue, OriginMissing, BlockMissing, CodeLimit}
+use Rattle.gw_pieces.specs.Reasons.{CodeDue, ProcedureMissing, CodeOrBlockMissing, DeclarationMissing, EntityMissing, AnyMissing, PieceMissing}
 use Rattle.gw_pieces.specs.Reasons.{NotesStatement, NotesOrigin, NotesCode}
 use Rattle.gw_pieces.proofs.Noting.{further, widen}
 
 module _ (n : Numbers) (ss : List Statement) where
   -- what comes from a position of a statement is of its line
-  pub at_statement : (o : Origin) (s : Statement) → slice_get ss o.statement ≡ Some s → (a b : Option Noted) → NotesStatement n s o.operand a b → NotesOrigin n ss o a b
+  pub at_statement : (o : Origin) (s : Statement) → slice_get ss o.statement ≡ Some s → (a b : Option Noted)
+      → NotesStatement n s o.operand a b → NotesOrigin n ss o a b
   at_statement o s there a b h = widen a b
       (λ note x. record { statement = s; there = there; reason = x.0; noted = x.1 })
       due
@@ -82,7 +85,8 @@ module _ (n : Numbers) (order : List Origin) (ss : List Statement) where
     where
       missing : (note : Noted) → OriginMissing n ss o note → ProcedureMissing n order ss note
       missing note (inl x) = inl (record { place = place; origin = o; among = at; room = room; line = x })
-      missing note (inr x) = inr (record { place = x.place; needed = record { place = place; origin = o; among = at; statement = x.needed }; missing = x.missing; noted = x.noted })
+      missing note (inr x) = inr
+          (record { place = x.place; needed = record { place = place; origin = o; among = at; statement = x.needed }; missing = x.missing; noted = x.noted })
 
       due : (note : Noted) → DueAt place note → OriginDue n ss o note
       due note d =
@@ -91,21 +95,26 @@ module _ (n : Numbers) (order : List Origin) (ss : List Statement) where
           subst (λ x. OriginDue n ss x note) same d.0.line
 
   -- and of the entity at a place
-  pub at_sight : (sighted : List Sighted) (place : ℕ) (e : Sighted) → slice_get sighted place ≡ Some e → (a b : Option Noted) → NotesMissing (DeclarationMissing n order ss e.declaration) a b → NotesMissing (EntityMissing n order ss sighted) a b
+  pub at_sight : (sighted : List Sighted) (place : ℕ) (e : Sighted) → slice_get sighted place ≡ Some e → (a b : Option Noted)
+      → NotesMissing (DeclarationMissing n order ss e.declaration) a b → NotesMissing (EntityMissing n order ss sighted) a b
   at_sight sighted place e at a b h = widen a b (λ note x. x) (λ note d. d) missing h
     where
       missing : (note : Noted) → DeclarationMissing n order ss e.declaration note → EntityMissing n order ss sighted note
       missing note (inl x) = inl (x.0, record { place = place; entity = e; among = at; declaration = x.1 }, x.2)
-      missing note (inr x) = inr (record { place = x.place; needed = record { place = place; entity = e; among = at; declaration = x.needed }; missing = x.missing; noted = x.noted })
+      missing note (inr x) = inr
+          (record { place = x.place; needed = record { place = place; entity = e; among = at; declaration = x.needed }; missing = x.missing; noted = x.noted })
 
   -- where this may be missing of code, and that of what else is made
-  with_code : {Missing WideMissing : Noted → Type 0} (a b : Option Noted) → ((note : Noted) → Missing note → WideMissing note) → NotesCode n order ss Missing a b → NotesCode n order ss WideMissing a b
+  with_code : {Missing WideMissing : Noted → Type 0} (a b : Option Noted) → ((note : Noted) → Missing note → WideMissing note)
+      → NotesCode n order ss Missing a b → NotesCode n order ss WideMissing a b
   with_code a b missing h = widen a b (λ note x. x) (λ note d. d) missing h
 
-  with_missing : {Limit Missing WideMissing : Noted → Type 0} (a b : Option Noted) → ((note : Noted) → Missing note → WideMissing note) → NotesMissing Missing a b → NotesMore Limit Never WideMissing a b
+  with_missing : {Limit Missing WideMissing : Noted → Type 0} (a b : Option Noted) → ((note : Noted) → Missing note → WideMissing note)
+      → NotesMissing Missing a b → NotesMore Limit Never WideMissing a b
   with_missing a b missing h = widen a b (λ note x. absurd x) (λ note d. d) missing h
 
-  pub code_and_blocks : (a b c : Option Noted) → NotesCode n order ss (ProcedureMissing n order ss) a b → NotesMissing (BlockMissing n order ss) b c → NotesCode n order ss (CodeOrBlockMissing n order ss) a c
+  pub code_and_blocks : (a b c : Option Noted) → NotesCode n order ss (ProcedureMissing n order ss) a b
+      → NotesMissing (BlockMissing n order ss) b c → NotesCode n order ss (CodeOrBlockMissing n order ss) a c
   code_and_blocks a b c h k = further a b c (λ note d. inl d) (with_code a b (λ note x. inl x) h) (with_missing b c (λ note x. inr x) k)
 
 -- an origin without a statement
@@ -115,9 +124,12 @@ astray_origin n ss o none = inr (record { place = o.statement; needed = refl; mi
 -- WHAT IS THERE
 
 -- what was declared last has a place among the statements
-within : {K : Type 0} (declared : Statement → Option K) (test : K → Bool) (i j : ℕ) (ss : List Statement) → last_by test (places_from declared j ss) ≡ Some i → i < j + length ss
+within : {K : Type 0} (declared : Statement → Option K) (test : K → Bool) (i j : ℕ) (ss : List Statement)
+    → last_by test (places_from declared j ss) ≡ Some i → i < j + length ss
 within declared test i j [] h = absurd cc
-within declared test i j (s ∷ ss) h = of_two (λ k x. within declared test k (j + 1) ss x) (last_by test (places_from declared (j + 1) ss)) refl (sym (last_append test (name_entry (declared s) j) (places_from declared (j + 1) ss)) ∙ h)
+within declared test i j (s ∷ ss) h =
+    of_two (λ k x. within declared test k (j + 1) ss x) (last_by test (places_from declared (j + 1) ss)) refl
+    (sym (last_append test (name_entry (declared s) j) (places_from declared (j + 1) ss)) ∙ h)
   where
     of_test : (b : Bool) → option_or None (if b then Some j else None) ≡ Some i → j ≡ i
     of_test true h = cc
@@ -127,7 +139,9 @@ within declared test i j (s ∷ ss) h = of_two (λ k x. within declared test k (
     here None h = absurd cc
     here (Some k) h = of_test (test k) h
 
-    of_two : ((k : ℕ) → last_by test (places_from declared (j + 1) ss) ≡ Some k → k < (j + 1) + length ss) → (later : Option ℕ) → last_by test (places_from declared (j + 1) ss) ≡ later → option_or (last_by test (places_from declared (j + 1) ss)) (last_by test (name_entry (declared s) j)) ≡ Some i → i < j + suc (length ss)
+    of_two : ((k : ℕ) → last_by test (places_from declared (j + 1) ss) ≡ Some k → k < (j + 1) + length ss) → (later : Option ℕ)
+        → last_by test (places_from declared (j + 1) ss) ≡ later
+        → option_or (last_by test (places_from declared (j + 1) ss)) (last_by test (name_entry (declared s) j)) ≡ Some i → i < j + suc (length ss)
     of_two rest None is h =
         let own = here (declared s) (rw is at h) in
         omega (arith, own)
@@ -152,7 +166,8 @@ abbrev declaration : Sighted → Option ℕ
 declaration s = s.declaration
 
 -- what was sighted is declared as the text says
-declared_at : (ss : List Statement) (sighted : List Sighted) (ks : List Key) → map declaration sighted ≡ map (declaration_of ss) ks → (place : ℕ) (e : Sighted) → slice_get sighted place ≡ Some e → (k : Key) × (declaration_of ss k ≡ e.declaration)
+declared_at : (ss : List Statement) (sighted : List Sighted) (ks : List Key) → map declaration sighted ≡ map (declaration_of ss) ks
+    → (place : ℕ) (e : Sighted) → slice_get sighted place ≡ Some e → (k : Key) × (declaration_of ss k ≡ e.declaration)
 declared_at ss [] ks same place e at = absurd cc
 declared_at ss (s ∷ sighted) [] same place e at = absurd cc
 declared_at ss (s ∷ sighted) (k ∷ ks) same zero e at =
@@ -163,7 +178,8 @@ declared_at ss (s ∷ sighted) (k ∷ ks) same (suc place) e at =
     let rest : map declaration sighted ≡ map (declaration_of ss) ks = cc in
     declared_at ss sighted ks rest place e at
 
-module _ (n : Numbers) (order : List Origin) (ss : List Statement) (sighted : List Sighted) (declared : map declaration sighted ≡ map (declaration_of ss) (entities_of ss)) (there : AllThere ss order) where
+module _ (n : Numbers) (order : List Origin) (ss : List Statement) (sighted : List Sighted)
+    (declared : map declaration sighted ≡ map (declaration_of ss) (entities_of ss)) (there : AllThere ss order) where
   is_declared : (i : ℕ) → IsSightedAt sighted i → IsDeclaration ss i
   is_declared i x = let d = declared_at ss sighted (entities_of ss) declared x.place x.entity x.among in (d.0, d.1 ∙ x.declaration)
 
@@ -173,7 +189,9 @@ module _ (n : Numbers) (order : List Origin) (ss : List Statement) (sighted : Li
 
   origin_is_there : (i : ℕ) → IsOrigin order i → i < length ss
   origin_is_there i x =
-      let below : x.origin.statement < length ss = subst (λ (o : Origin). o.statement < length ss) (get_or_from_slice_get order x.place x.origin x.origin x.among) (there x.place x.origin (slice_get_within order x.place x.origin x.among)) in
+      let below : x.origin.statement < length ss =
+      subst (λ (o : Origin). o.statement < length ss) (get_or_from_slice_get order x.place x.origin x.origin x.among)
+      (there x.place x.origin (slice_get_within order x.place x.origin x.among)) in
       subst (λ k. k < length ss) x.statement below
 
   missing_code : (note : Noted) → ProcedureMissing n order ss note → PieceMissing n order ss note

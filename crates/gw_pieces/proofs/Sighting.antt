@@ -1,5 +1,6 @@
 -- Entities that are made one after the other.
-use Rattle.std.proofs.Common.{◌≡◌, ◌≤◌, ℕ, ◌+◌, List, [], ◌∷◌, ◌++◌, length, drop, Option, Some, None, string_bytes, slice_get, sym, ap, subst, ◌∙◌, append_assoc}
+use Rattle.std.proofs.Common.{◌≡◌, ◌≤◌, ℕ, ◌+◌, List, [], ◌∷◌, ◌++◌, length, drop, Option, Some, None, string_bytes, slice_get, sym, ap, subst, ◌∙◌}
+use Rattle.std.proofs.Common.{append_assoc}
 use Rattle.std.proofs.lemmas.List.{drop_all, append-nil}
 use Rattle.gw_object.specs.declared.parts.Entity.{Entity}
 use Rattle.gw_text.specs.declared.model.Statement.{Statement}
@@ -33,13 +34,15 @@ module _ (n : Numbers) (order : List Origin) (ss : List Statement) (sighted : Li
       subst (AreSightedAs n order ss sighted) (append-nil es) none
 
 module _ (n : Numbers) (source : Numbered → Operand) (order : List Origin) (ss : List Statement) where
-  same_kind : (declaration : Option ℕ) (needed : EntityKind) (name : List ℕ) (kind : Kind) → IsKindBy n order ss declaration needed name kind → IsKindBy (with_source n source) order ss declaration needed name kind
+  same_kind : (declaration : Option ℕ) (needed : EntityKind) (name : List ℕ) (kind : Kind)
+      → IsKindBy n order ss declaration needed name kind → IsKindBy (with_source n source) order ss declaration needed name kind
   same_kind None needed name kind h = h
   same_kind (Some i) needed name kind h = (h.0, h.1, h.2)
 
   -- what is evaluated for attributes in the end doesn't matter for entities
   pub resourced : (sighted : List Sighted) (es : List Entity) → AreSightedAs n order ss sighted es → AreSightedAs (with_source n source) order ss sighted es
   resourced [] [] h = tt
-  resourced (s ∷ sighted) (e ∷ es) h = (record { name = h.0.name; kind = same_kind s.declaration s.kind (string_bytes s.name) e.kind h.0.kind }, resourced sighted es h.1)
+  resourced (s ∷ sighted) (e ∷ es) h =
+      (record { name = h.0.name; kind = same_kind s.declaration s.kind (string_bytes s.name) e.kind h.0.kind }, resourced sighted es h.1)
   resourced [] (e ∷ es) h = absurd h
   resourced (s ∷ sighted) [] h = absurd h

@@ -1,5 +1,6 @@
 -- Walks over the statements of a text, one statement after the other.
-use Rattle.std.proofs.Common.{◌≡◌, ℕ, zero, suc, ◌+◌, List, [], ◌∷◌, ◌++◌, Some, None, slice_get, refl, sym, ap, subst, ◌∙◌, append_assoc, drop, length, get_or, ◌<◌, ◌≤◌, arith}
+use Rattle.std.proofs.Common.{◌≡◌, ℕ, zero, suc, ◌+◌, List, [], ◌∷◌, ◌++◌, Some, None, slice_get, refl, sym, ap, subst, ◌∙◌, append_assoc, drop}
+use Rattle.std.proofs.Common.{length, get_or, ◌<◌, ◌≤◌, arith}
 use Rattle.std.proofs.lemmas.Option.{slice_get_read}
 use Rattle.gw_blocks.specs.declared.parts.Block.{Block}
 use Rattle.gw_text.specs.declared.model.Statement.{Statement}
@@ -32,12 +33,14 @@ pub none_at : {A : Type 0} (xs ys : List A) (i : ℕ) → ys ≡ xs → length y
 none_at xs ys i same behind_all = subst (λ zs. slice_get zs i ≡ None) same (past ys i behind_all)
 
 module _ (n : Numbers) (order : List Origin) (ss : List Statement) (i : ℕ) (s : Statement) (at : slice_get ss i ≡ Some s) where
-  pub next_block : (before after whole : List Block) → after ≡ before ++ block_at n order s i → before ++ blocks_from n order i (drop i ss) ≡ whole → after ++ blocks_from n order (i + 1) (drop (i + 1) ss) ≡ whole
+  pub next_block : (before after whole : List Block) → after ≡ before ++ block_at n order s i → before ++ blocks_from n order i (drop i ss)
+      ≡ whole → after ++ blocks_from n order (i + 1) (drop (i + 1) ss) ≡ whole
   next_block before after whole grown h =
       ap (λ bs. bs ++ blocks_from n order (i + 1) (drop (i + 1) ss)) grown
       ∙ append_assoc before (block_at n order s i) (blocks_from n order (i + 1) (drop (i + 1) ss))
       ∙ ap (λ left. before ++ blocks_from n order i left) (sym (split_at ss i s at))
       ∙ h
 
-  pub next_recorded : IsRecorded n order s i → (AllRecorded n order i (drop i ss) → AllRecorded n order 0 ss) → AllRecorded n order (i + 1) (drop (i + 1) ss) → AllRecorded n order 0 ss
+  pub next_recorded : IsRecorded n order s i → (AllRecorded n order i (drop i ss) → AllRecorded n order 0 ss)
+      → AllRecorded n order (i + 1) (drop (i + 1) ss) → AllRecorded n order 0 ss
   next_recorded here before rest = before (subst (AllRecorded n order i) (sym (split_at ss i s at)) (here, rest))

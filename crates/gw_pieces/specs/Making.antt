@@ -81,12 +81,14 @@ abbrev pub IsPlanOf : Model → Plan → Type 0
 IsPlanOf text plan = plan.text.now ≡ text
 
 -- a plan whose names have these entities
-abbrev pub with_entities : (plan : Plan) (made : Vec Entity Global) → IsPlan (text_planned plan) (record plan.names { list = made }) (order_planned plan) plan.sighted.items → Plan
+abbrev pub with_entities : (plan : Plan) (made : Vec Entity Global)
+    → IsPlan (text_planned plan) (record plan.names { list = made }) (order_planned plan) plan.sighted.items → Plan
 with_entities plan made planned = record plan { names = record plan.names { list = made }; planned = planned }
 
 -- the names of a plan get these entities
 abbrev pub GetsEntities : Plan → Vec Entity Global → Plan → Type 0
-GetsEntities old made new = (planned : IsPlan (text_planned old) (record old.names { list = made }) (order_planned old) old.sighted.items) × (new ≡ with_entities old made planned)
+GetsEntities old made new = (planned : IsPlan (text_planned old) (record old.names { list = made }) (order_planned old) old.sighted.items)
+    × (new ≡ with_entities old made planned)
 
 -- where nothing is noted, there are no more origins than an object has procedures
 abbrev pub HasRoom : Ledger → Ledger → Vec Origin Global → Type 0

@@ -1,5 +1,6 @@
 -- What the names of PROCEDUREs and EQUs stand for, where the procedures have these origins, in order.
-use Rattle.std.specs.Prelude.{◌≡◌, ℕ, ◌+◌, ℤ, Result, min, length, List, [], ◌∷◌, ◌++◌, Option, Some, None, slice_get, option_and_then, string_bytes, true, if◌then◌else◌}
+use Rattle.std.specs.Prelude.{◌≡◌, ℕ, ◌+◌, ℤ, Result, min, length, List, [], ◌∷◌, ◌++◌, Option, Some, None, slice_get, option_and_then, string_bytes}
+use Rattle.std.specs.Prelude.{true, if◌then◌else◌}
 use Rattle.std.specs.Option.{option_or}
 use Rattle.gw_text_plus.specs.declared.model.Procedure.{Procedure as TextProcedure}
 use Rattle.gw_text.specs.declared.model.Model.{Model}

@@ -1,5 +1,6 @@
 -- The procedures of a text and their order: that of the text, but what one calls comes before it, in order of first sight.
-use Rattle.std.specs.Prelude.{◌≡◌, Vec, ℕ, zero, suc, ◌+◌, ℤ, List, [], ◌∷◌, ◌++◌, length, replicate, set, Option, Some, None, option_and_then, option_to_list, Bool, true, false, ◌&&◌, not, is_some, is_none, if◌then◌else◌, nat_lt, ◌==◌, slice_get, string_bytes}
+use Rattle.std.specs.Prelude.{◌≡◌, Vec, ℕ, zero, suc, ◌+◌, ℤ, List, [], ◌∷◌, ◌++◌, length, replicate, set, Option, Some, None, option_and_then}
+use Rattle.std.specs.Prelude.{option_to_list, Bool, true, false, ◌&&◌, not, is_some, is_none, if◌then◌else◌, nat_lt, ◌==◌, slice_get, string_bytes}
 use Rattle.std.specs.List.{flat_map}
 use Rattle.std.specs.Global.{Global}
 use Rattle.gw_rules.specs.declared.entities.EntityKind.{EntityKind}

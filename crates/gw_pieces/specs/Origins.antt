@@ -1,5 +1,6 @@
 -- What of a model text becomes procedures, and which numbers they have.
-use Rattle.std.specs.Prelude.{ℕ, ◌+◌, List, [], ◌∷◌, Option, Some, None, Bool, true, false, ◌==◌, ◌&&◌, nat_le, if◌then◌else◌, option_and_then, slice_get, string_bytes}
+use Rattle.std.specs.Prelude.{ℕ, ◌+◌, List, [], ◌∷◌, Option, Some, None, Bool, true, false, ◌==◌, ◌&&◌, nat_le, if◌then◌else◌, option_and_then}
+use Rattle.std.specs.Prelude.{slice_get, string_bytes}
 use Rattle.gw_text_expressions.specs.declared.model.Expression.{Expression}
 use Rattle.gw_text_expressions.specs.declared.model.Expression.TheVariants.{Call'}
 use Rattle.gw_text_expressions.specs.declared.model.Expression.TheVariants as trees

@@ -48,7 +48,8 @@ use Rattle.gw_pieces.specs.Sources.{AreCompiled}
 
 -- NAMES
 
--- names have the numbers that the text gives them: entities and parameters in order of first sight, labels those of their blocks, and PROCEDUREs and EQUs by the order of the procedures
+-- names have the numbers that the text gives them: entities and parameters in order of first sight, labels those of
+-- their blocks, and PROCEDUREs and EQUs by the order of the procedures
 pub record NumbersText (n : Numbers) (order : List Origin) (ss : List Statement) : Type 0 where
   pub entities : (kind : EntityKind) (name : List ℕ) → n.entity kind name ≡ number_among (entities_of ss) (key kind name)
   pub labels : (label : List ℕ) → n.block label ≡ block_of ss label
@@ -108,7 +109,8 @@ pub record IsMadeOf (ss : List Statement) (p : Parts) : Type 0 where
 
 -- VALUES
 
--- a procedure of an object computes an expression: in each environment that sets what it needs, it comes to the value of the expression's tree, or to its first named end
+-- a procedure of an object computes an expression: in each environment that sets what it needs, it comes to the value
+-- of the expression's tree, or to its first named end
 pub record Computes (n : Numbers) (p : Parts) (e : Expression) (q : ℕ) : Type 0 where
   pub procedure : Procedure
   pub there : procedure_at p q ≡ Some procedure

@@ -20,7 +20,8 @@ use Rattle.gw_pieces.specs.Clear.{StaysClear}
 use Rattle.gw_pieces.specs.Entities.{GrowsBy, IsKindBy, IsSightedAs, AreSightedAs}
 use Rattle.gw_pieces.specs.Notes.{NotesMissing, NotesUnless}
 use Rattle.gw_pieces.specs.Origins as numbers
-use Rattle.gw_pieces.specs.Reasons.{NotesStatement, NotesOrigin, NotesCode, least_after_block, BlockMissing, ProcedureMissing, CodeOrBlockMissing, DeclarationMissing, EntityMissing}
+use Rattle.gw_pieces.specs.Reasons.{NotesStatement, NotesOrigin, NotesCode, least_after_block, BlockMissing, ProcedureMissing, CodeOrBlockMissing}
+use Rattle.gw_pieces.specs.Reasons.{DeclarationMissing, EntityMissing}
 use Rattle.gw_pieces.specs.Sources.{IsProcedureOf, ComesFrom, AreCompiled, Grows}
 use Rattle.std.specs.Prelude.{string_bytes}
 
@@ -102,7 +103,8 @@ module _ (plan : Plan) where
   -- what may be noted while this is missing
   abbrev pub NotesWhere : (Numbers → List Origin → List Statement → Noted → Type 0) → Ledger → Ledger → Type 0
   NotesWhere Missing old new =
-      NotesCode (names_planned plan) (order_planned plan) (text_planned plan) (Missing (names_planned plan) (order_planned plan) (text_planned plan)) old.least new.least
+      NotesCode (names_planned plan) (order_planned plan) (text_planned plan)
+      (Missing (names_planned plan) (order_planned plan) (text_planned plan)) old.least new.least
 
   abbrev pub NotesProcedures : Ledger → Ledger → Type 0
   NotesProcedures old new = NotesWhere ProcedureMissing old new
@@ -126,7 +128,8 @@ module _ (plan : Plan) where
 
   -- where nothing is noted, an entity that was sighted is this
   abbrev pub IsKind : Sighted → Ledger → Ledger → Kind → Type 0
-  IsKind e old new kind = StaysClear old new (IsKindBy (names_planned plan) (order_planned plan) (text_planned plan) e.declaration e.kind (string_bytes e.name) kind)
+  IsKind e old new kind = StaysClear old new
+      (IsKindBy (names_planned plan) (order_planned plan) (text_planned plan) e.declaration e.kind (string_bytes e.name) kind)
 
   -- what is noted of it
   abbrev pub NotesSighted : Sighted → Ledger → Ledger → Type 0

@@ -258,7 +258,8 @@ module _ (n : Numbers) (order : List Origin) (ss : List Statement) where
 -- what is to be told of the code at a position of a statement is noted at its line
 abbrev pub NotesStatement : Numbers → Statement → ℕ → Option Noted → Option Noted → Type 0
 NotesStatement n s k before after =
-    NotesMore (IsFor (Exceeds n s k) s.line limit_fault) (IsFor (ExceedsKnown n s k) s.line limit_fault) (IsFor (LacksCode n s k) s.line name_fault) before after
+    NotesMore (IsFor (Exceeds n s k) s.line limit_fault) (IsFor (ExceedsKnown n s k) s.line limit_fault)
+    (IsFor (LacksCode n s k) s.line name_fault) before after
 
 -- and of that of an origin
 abbrev pub NotesOrigin : Numbers → List Statement → Origin → Option Noted → Option Noted → Type 0

@@ -1,5 +1,6 @@
 -- What START, RMULT and INITIAL set.
-use Rattle.std.specs.Prelude.{◌≡◌, ◌++◌, Vec, ℕ, zero, suc, ◌+◌, ◌^◌, nat_lt, take, ℤ, pos, negsuc, List, [], ◌∷◌, Option, Some, None, ◌==◌, if◌then◌else◌, slice_get}
+use Rattle.std.specs.Prelude.{◌≡◌, ◌++◌, Vec, ℕ, zero, suc, ◌+◌, ◌^◌, nat_lt, take, ℤ, pos, negsuc, List, [], ◌∷◌, Option, Some, None, ◌==◌}
+use Rattle.std.specs.Prelude.{if◌then◌else◌, slice_get}
 use Rattle.std.specs.Global.{Global}
 use Rattle.gw_text_statements.specs.declared.model.Operand.{Operand}
 use Rattle.gw_text_statements.specs.declared.model.Operand.TheVariants as texts

@@ -6,7 +6,7 @@ ghost use Rattle.gw_pieces.specs.Naming as model;
 
 use crate::origins::Origin;
 use gw_compile::{Callee, Equ};
-use gw_names::{Known, value_of_name, is_equ, set, set_label};
+use gw_names::{Known, is_equ, set, set_label, value_of_name};
 use gw_text::{Body, Model, Procedure, Statement};
 use indexmap::IndexMap;
 use std::alloc::{AllocError, Global};

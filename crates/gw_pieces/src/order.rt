@@ -6,10 +6,10 @@ ghost use Rattle.gw_pieces.specs.Order as model;
 ghost use Rattle.gw_pieces.specs.Order.{lookup_for, lookup_of, ordered_by};
 
 use crate::origins::{Origin, expression_at, place_of, whole_call};
+use gw_name_uses::{Use, put_uses_of_operand, put_uses_of_procedure};
 use gw_names::{Known, value_of_name};
 use gw_rules::EntityKind;
 use gw_text::{Body, EntityValue, Model, Operand, Sna, Statement};
-use gw_name_uses::{Use, put_uses_of_operand, put_uses_of_procedure};
 use std::alloc::{AllocError, Global};
 
 /// What the order is found from.

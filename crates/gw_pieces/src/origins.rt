@@ -7,7 +7,7 @@ ghost use Rattle.gw_names.specs.Places.{label_of};
 ghost use Rattle.gw_pieces.specs.Order as order;
 ghost use Rattle.gw_pieces.specs.Origins as model;
 
-use gw_names::{Known, value_of_name, is_equ};
+use gw_names::{Known, is_equ, value_of_name};
 use gw_text::{Body, Expression, Model, Operand, Statement, Word};
 use std::alloc::{AllocError, Global};
 

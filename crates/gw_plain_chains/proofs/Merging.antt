@@ -1,11 +1,13 @@
 -- A chain that is kept in two runs, by time: those that were settled, and those that came later.
-use Rattle.std.proofs.Common.{◌≡◌, suc, List, [], ◌∷◌, ◌++◌, ◌+◌, ◌-◌, ◌≤◌, ℕ, take, drop, subst, if◌then◌else◌, Bool, true, false, true≢false, append_assoc, refl, ap, sym, ◌∙◌, arith, ◌<◌, length, get_or, ℤ, ◌≤ℤ◌, ◌<ℤ◌}
+use Rattle.std.proofs.Common.{◌≡◌, suc, List, [], ◌∷◌, ◌++◌, ◌+◌, ◌-◌, ◌≤◌, ℕ, take, drop, subst, if◌then◌else◌, Bool, true, false, true≢false}
+use Rattle.std.proofs.Common.{append_assoc, refl, ap, sym, ◌∙◌, arith, ◌<◌, length, get_or, ℤ, ◌≤ℤ◌, ◌<ℤ◌}
 use Rattle.std.specs.Prelude.{All, AllPairs, IsPermutation, int_le}
 use Rattle.std.proofs.lemmas.Int.{ints}
 use Rattle.std.proofs.lemmas.List.{append-nil, take-append-drop, drop-drop, length-take-le, length-drop, get_or-take, get_or-drop}
 use Rattle.std.proofs.Math.Seq.{take-add, take-append_seam, drop-append_seam}
 use Rattle.std.proofs.lemmas.List.Elements.{All-head, All-tail, All-cons}
-use Rattle.std.proofs.lemmas.List.Sorted.{IsPermutation-refl, IsPermutation-sym, IsPermutation-trans, IsPermutation-cons, IsPermutation-insert, IsPermutation-append_left, IsPermutation-to_front}
+use Rattle.std.proofs.lemmas.List.Sorted.{IsPermutation-refl, IsPermutation-sym, IsPermutation-trans, IsPermutation-cons, IsPermutation-insert}
+use Rattle.std.proofs.lemmas.List.Sorted.{IsPermutation-append_left, IsPermutation-to_front}
 use Rattle.gw_members.specs.Chain.{in_time, first, rest}
 use Rattle.gw_plain_chains.specs.Runs.{merged, begins_recent}
 
@@ -23,7 +25,8 @@ module _ {A : Type 0} (time : A → ℤ) where
   in_either_order x y [] lt = stays_ahead y x [] (grind (arith, ints)) ∙ sym (goes_ahead x y [] lt)
   in_either_order x y (z ∷ zs) lt = case (int_le (time z) (time x)) refl (in_either_order x y zs lt)
     where
-      case : (b : Bool) → int_le (time z) (time x) ≡ b → in_time time y (in_time time x zs) ≡ in_time time x (in_time time y zs) → in_time time y (in_time time x (z ∷ zs)) ≡ in_time time x (in_time time y (z ∷ zs))
+      case : (b : Bool) → int_le (time z) (time x) ≡ b → in_time time y (in_time time x zs) ≡ in_time time x (in_time time y zs)
+          → in_time time y (in_time time x (z ∷ zs)) ≡ in_time time x (in_time time y (z ∷ zs))
       case true e same =
           ap (in_time time y) (stays_ahead x z zs (grind (arith, ints)))
           ∙ stays_ahead y z (in_time time x zs) (grind (arith, ints))
@@ -40,14 +43,16 @@ module _ {A : Type 0} (time : A → ℤ) where
           before false f = rw f (goes_ahead x y (z ∷ zs) lt)
 
   -- a newcomer to the settled ones, scheduled before all that came later
-  merged_before : (x : A) (settled recent : List A) → All (λ r. time x <ℤ time r) recent → merged time (in_time time x settled) recent ≡ in_time time x (merged time settled recent)
+  merged_before : (x : A) (settled recent : List A) → All (λ r. time x <ℤ time r) recent → merged time (in_time time x settled) recent
+      ≡ in_time time x (merged time settled recent)
   merged_before x settled [] all = refl
   merged_before x settled (r ∷ rs) all =
       ap (λ ws. merged time ws rs) (in_either_order x r settled (All-head (λ r. time x <ℤ time r) r rs all))
       ∙ merged_before x (in_time time r settled) rs (All-tail (λ r. time x <ℤ time r) r rs all)
 
   -- the first of the settled ones comes first, where no recent one is scheduled before it
-  pub merged_settled : (x : A) (settled recent : List A) → All (λ r. time x ≤ℤ time r) recent → merged time (x ∷ settled) recent ≡ x ∷ merged time settled recent
+  pub merged_settled : (x : A) (settled recent : List A) → All (λ r. time x ≤ℤ time r) recent → merged time (x ∷ settled) recent ≡ x
+      ∷ merged time settled recent
   merged_settled x settled [] all = refl
   merged_settled x settled (r ∷ rs) all =
       ap (λ ws. merged time ws rs) (stays_ahead r x settled (All-head (λ r. time x ≤ℤ time r) r rs all))
@@ -64,16 +69,20 @@ module _ {A : Type 0} (time : A → ℤ) where
   pub merged_alone : (r : A) (rs : List A) → AllPairs (λ y z. time y ≤ℤ time z) (r ∷ rs) → merged time [] (r ∷ rs) ≡ r ∷ merged time [] rs
   merged_alone r rs ordered = merged_settled r [] rs (after_first r rs ordered)
 
-  pub merged_recent : (x : A) (settled : List A) (r : A) (rs : List A) → time r <ℤ time x → AllPairs (λ y z. time y ≤ℤ time z) (r ∷ rs) → merged time (x ∷ settled) (r ∷ rs) ≡ r ∷ merged time (x ∷ settled) rs
+  pub merged_recent : (x : A) (settled : List A) (r : A) (rs : List A) → time r <ℤ time x → AllPairs (λ y z. time y ≤ℤ time z) (r ∷ rs)
+      → merged time (x ∷ settled) (r ∷ rs) ≡ r ∷ merged time (x ∷ settled) rs
   merged_recent x settled r rs lt ordered =
       ap (λ ws. merged time ws rs) (goes_ahead r x settled lt) ∙ merged_settled r (x ∷ settled) rs (after_first r rs ordered)
 
   -- a newcomer among the recent ones has its place in the whole chain
-  pub merged_newcomer : (x : A) (settled recent : List A) → AllPairs (λ y z. time y ≤ℤ time z) recent → merged time settled (in_time time x recent) ≡ in_time time x (merged time settled recent)
+  pub merged_newcomer : (x : A) (settled recent : List A) → AllPairs (λ y z. time y ≤ℤ time z) recent
+      → merged time settled (in_time time x recent) ≡ in_time time x (merged time settled recent)
   merged_newcomer x settled [] ordered = refl
   merged_newcomer x settled (y ∷ ys) ordered = case (int_le (time y) (time x)) refl (merged_newcomer x (in_time time y settled) ys (rest_ordered y ys ordered))
     where
-      case : (b : Bool) → int_le (time y) (time x) ≡ b → merged time (in_time time y settled) (in_time time x ys) ≡ in_time time x (merged time (in_time time y settled) ys) → merged time settled (in_time time x (y ∷ ys)) ≡ in_time time x (merged time settled (y ∷ ys))
+      case : (b : Bool) → int_le (time y) (time x) ≡ b → merged time (in_time time y settled) (in_time time x ys)
+          ≡ in_time time x (merged time (in_time time y settled) ys) → merged time settled (in_time time x (y ∷ ys))
+          ≡ in_time time x (merged time settled (y ∷ ys))
       case true e same = ap (merged time settled) (stays_ahead x y ys (grind (arith, ints))) ∙ same
       case false e same =
           let lt : time x <ℤ time y = grind (arith, ints) in
@@ -82,7 +91,8 @@ module _ {A : Type 0} (time : A → ℤ) where
           ∙ merged_before x settled (y ∷ ys) (All-cons (λ r. time x <ℤ time r) y ys lt (λ k d within. let le = all k d within in grind (arith, ints)))
 
   -- settled ones that are scheduled for no later time than the first recent one stay ahead of it
-  merged_passed : (early settled : List A) (r : A) (rs : List A) → All (λ e. time e ≤ℤ time r) early → AllPairs (λ y z. time y ≤ℤ time z) (r ∷ rs) → merged time (early ++ settled) (r ∷ rs) ≡ early ++ merged time settled (r ∷ rs)
+  merged_passed : (early settled : List A) (r : A) (rs : List A) → All (λ e. time e ≤ℤ time r) early
+      → AllPairs (λ y z. time y ≤ℤ time z) (r ∷ rs) → merged time (early ++ settled) (r ∷ rs) ≡ early ++ merged time settled (r ∷ rs)
   merged_passed [] settled r rs all ordered = refl
   merged_passed (e ∷ es) settled r rs all ordered =
       let le : time e ≤ℤ time r = All-head (λ e. time e ≤ℤ time r) e es all in
@@ -92,11 +102,13 @@ module _ {A : Type 0} (time : A → ℤ) where
 
   -- TAKING THE FIRST
 
-  pub first_recent : (settled : List A) (r : A) (rs : List A) → begins_recent time settled (r ∷ rs) ≡ true → AllPairs (λ y z. time y ≤ℤ time z) (r ∷ rs) → merged time settled (r ∷ rs) ≡ r ∷ merged time settled rs
+  pub first_recent : (settled : List A) (r : A) (rs : List A) → begins_recent time settled (r ∷ rs) ≡ true
+      → AllPairs (λ y z. time y ≤ℤ time z) (r ∷ rs) → merged time settled (r ∷ rs) ≡ r ∷ merged time settled rs
   first_recent [] r rs begins ordered = merged_alone r rs ordered
   first_recent (x ∷ settled) r rs begins ordered = merged_recent x settled r rs (grind (arith, ints)) ordered
 
-  pub first_settled : (x : A) (settled recent : List A) → begins_recent time (x ∷ settled) recent ≡ false → AllPairs (λ y z. time y ≤ℤ time z) recent → merged time (x ∷ settled) recent ≡ x ∷ merged time settled recent
+  pub first_settled : (x : A) (settled recent : List A) → begins_recent time (x ∷ settled) recent ≡ false
+      → AllPairs (λ y z. time y ≤ℤ time z) recent → merged time (x ∷ settled) recent ≡ x ∷ merged time settled recent
   first_settled x settled [] begins ordered = refl
   first_settled x settled (r ∷ rs) begins ordered =
       let le : time x ≤ℤ time r = grind (arith, ints) in
@@ -108,19 +120,23 @@ module _ {A : Type 0} (time : A → ℤ) where
   none_left (r ∷ rs) begins = absurd (true≢false begins)
 
   -- what comes first, and what is left behind it
-  pub first_when_recent : (settled recent : List A) → begins_recent time settled recent ≡ true → AllPairs (λ y z. time y ≤ℤ time z) recent → first (merged time settled recent) ≡ first recent
+  pub first_when_recent : (settled recent : List A) → begins_recent time settled recent ≡ true → AllPairs (λ y z. time y ≤ℤ time z) recent
+      → first (merged time settled recent) ≡ first recent
   first_when_recent settled [] begins ordered = absurd (true≢false (sym begins))
   first_when_recent settled (r ∷ rs) begins ordered = ap first (first_recent settled r rs begins ordered)
 
-  pub rest_when_recent : (settled recent : List A) → begins_recent time settled recent ≡ true → AllPairs (λ y z. time y ≤ℤ time z) recent → rest (merged time settled recent) ≡ merged time settled (rest recent)
+  pub rest_when_recent : (settled recent : List A) → begins_recent time settled recent ≡ true → AllPairs (λ y z. time y ≤ℤ time z) recent
+      → rest (merged time settled recent) ≡ merged time settled (rest recent)
   rest_when_recent settled [] begins ordered = absurd (true≢false (sym begins))
   rest_when_recent settled (r ∷ rs) begins ordered = ap rest (first_recent settled r rs begins ordered)
 
-  pub first_when_settled : (settled recent : List A) → begins_recent time settled recent ≡ false → AllPairs (λ y z. time y ≤ℤ time z) recent → first (merged time settled recent) ≡ first settled
+  pub first_when_settled : (settled recent : List A) → begins_recent time settled recent ≡ false
+      → AllPairs (λ y z. time y ≤ℤ time z) recent → first (merged time settled recent) ≡ first settled
   first_when_settled [] recent begins ordered = ap first (none_left recent begins)
   first_when_settled (x ∷ settled) recent begins ordered = ap first (first_settled x settled recent begins ordered)
 
-  pub rest_when_settled : (settled recent : List A) → begins_recent time settled recent ≡ false → AllPairs (λ y z. time y ≤ℤ time z) recent → rest (merged time settled recent) ≡ merged time (rest settled) recent
+  pub rest_when_settled : (settled recent : List A) → begins_recent time settled recent ≡ false → AllPairs (λ y z. time y ≤ℤ time z) recent
+      → rest (merged time settled recent) ≡ merged time (rest settled) recent
   rest_when_settled [] recent begins ordered = ap rest (none_left recent begins) ∙ sym (none_left recent begins)
   rest_when_settled (x ∷ settled) recent begins ordered = ap rest (first_settled x settled recent begins ordered)
 
@@ -164,7 +180,8 @@ module _ {A : Type 0} (time : A → ℤ) where
   -- SETTLING
 
   -- in one round of settling, those settled that are scheduled for no later time than the first recent one go to the end, and it goes behind them
-  pub settled_round : (early unseen done : List A) (r : A) (rs : List A) → All (λ e. time e ≤ℤ time r) early → ((d : A) → 0 < length unseen → time r <ℤ time (get_or unseen 0 d)) → AllPairs (λ y z. time y ≤ℤ time z) (r ∷ rs) →
+  pub settled_round : (early unseen done : List A) (r : A) (rs : List A) → All (λ e. time e ≤ℤ time r) early
+      → ((d : A) → 0 < length unseen → time r <ℤ time (get_or unseen 0 d)) → AllPairs (λ y z. time y ≤ℤ time z) (r ∷ rs) →
       done ++ merged time (early ++ unseen) (r ∷ rs) ≡ ((done ++ early) ++ r ∷ []) ++ merged time unseen rs
   settled_round early unseen done r rs all late ordered =
       ap (λ ws. done ++ ws) (merged_passed early unseen r rs all ordered ∙ ap (λ ws. early ++ ws) (next unseen late))
@@ -180,7 +197,9 @@ module _ {A : Type 0} (time : A → ℤ) where
   settling unseen settled recent = drop unseen settled ++ merged time (take unseen settled) recent
 
   -- one round, where so many of the unseen pass
-  pub settling_round : (xs : List A) (unseen passed : ℕ) (r : A) (rs : List A) → passed ≤ unseen → unseen ≤ length xs → All (λ e. time e ≤ℤ time r) (take passed xs) → ((d : A) → passed < unseen → time r <ℤ time (get_or xs passed d)) → AllPairs (λ y z. time y ≤ℤ time z) (r ∷ rs) →
+  pub settling_round : (xs : List A) (unseen passed : ℕ) (r : A) (rs : List A) → passed ≤ unseen → unseen ≤ length xs
+      → All (λ e. time e ≤ℤ time r) (take passed xs) → ((d : A) → passed < unseen → time r <ℤ time (get_or xs passed d))
+      → AllPairs (λ y z. time y ≤ℤ time z) (r ∷ rs) →
       settling (unseen - passed) ((drop passed xs ++ take passed xs) ++ r ∷ []) rs ≡ settling unseen xs (r ∷ rs)
   settling_round xs unseen passed r rs few within all late ordered =
       let left = unseen - passed in
@@ -195,8 +214,13 @@ module _ {A : Type 0} (time : A → ℤ) where
       ap (λ ws. (ws ++ early) ++ r ∷ []) (sym (take-append-drop left (drop passed xs)))
       ∙ ap (λ ws. ws ++ r ∷ []) (append_assoc rest_unseen done early)
       ∙ append_assoc rest_unseen (done ++ early) (r ∷ []) in
-      let front : take left (rest_unseen ++ ((done ++ early) ++ r ∷ [])) ≡ rest_unseen = subst (λ n. take n (rest_unseen ++ ((done ++ early) ++ r ∷ [])) ≡ rest_unseen) long (take-append_seam rest_unseen ((done ++ early) ++ r ∷ [])) in
-      let back : drop left (rest_unseen ++ ((done ++ early) ++ r ∷ [])) ≡ (done ++ early) ++ r ∷ [] = subst (λ n. drop n (rest_unseen ++ ((done ++ early) ++ r ∷ [])) ≡ (done ++ early) ++ r ∷ []) long (drop-append_seam rest_unseen ((done ++ early) ++ r ∷ [])) in
+      let front : take left (rest_unseen ++ ((done ++ early) ++ r ∷ [])) ≡ rest_unseen =
+      subst (λ n. take n (rest_unseen ++ ((done ++ early) ++ r ∷ [])) ≡ rest_unseen) long (take-append_seam rest_unseen ((done ++ early) ++ r ∷ [])) in
+      let back : drop left (rest_unseen ++ ((done ++ early) ++ r ∷ [])) ≡ (done ++ early) ++ r ∷ [] =
+      subst (λ n. drop n (rest_unseen ++ ((done ++ early) ++ r ∷ [])) ≡ (done ++ early) ++ r ∷ []) long
+      (drop-append_seam rest_unseen ((done ++ early) ++ r ∷ [])) in
       let after : (d : A) → 0 < length rest_unseen → time r <ℤ time (get_or rest_unseen 0 d) =
-      λ d some. subst (λ x. time r <ℤ time x) (sym (get_or-take left (drop passed xs) 0 d (omega (arith)) ∙ get_or-drop passed xs 0 d ∙ ap (λ n. get_or xs n d) (omega (arith)))) (late d (omega (arith))) in
+      λ d some. subst (λ x. time r <ℤ time x)
+      (sym (get_or-take left (drop passed xs) 0 d (omega (arith)) ∙ get_or-drop passed xs 0 d
+      ∙ ap (λ n. get_or xs n d) (omega (arith)))) (late d (omega (arith))) in
       rw whole (rw front (rw back (rw seen (rw behind (sym (settled_round early rest_unseen done r rs all after ordered))))))

@@ -1,5 +1,6 @@
 -- Calls, and the locals with which they begin.
-use Rattle.std.proofs.Common.{◌≡◌, ◌≢◌, ℕ, suc, ◌+◌, ◌-◌, ◌<◌, ◌≤◌, ℤ, pos, List, [], ◌∷◌, ◌++◌, length, take, drop, get_or, replicate, Option, Some, None, Bool, true, false, zero, refl, sym, ap, ◌∙◌, arith, add-one, length-append, nat_le}
+use Rattle.std.proofs.Common.{◌≡◌, ◌≢◌, ℕ, suc, ◌+◌, ◌-◌, ◌<◌, ◌≤◌, ℤ, pos, List, [], ◌∷◌, ◌++◌, length, take, drop, get_or, replicate, Option, Some}
+use Rattle.std.proofs.Common.{None, Bool, true, false, zero, refl, sym, ap, ◌∙◌, arith, add-one, length-append, nat_le}
 use Rattle.std.proofs.Math.ListN.{length-replicate}
 use Rattle.std.proofs.Math.Seq.{take-suc}
 use Rattle.std.proofs.lemmas.Bool.Decides.{nat_tests}
@@ -22,7 +23,8 @@ padded [] m i = sym (at-get_or (pos 0) (replicate m (pos 0)) i) ∙ at-replicate
 padded (a ∷ arguments) m zero = refl
 padded (a ∷ arguments) m (suc i) = padded arguments m i
 
-pub next_local : (arguments : List ℤ) (count i : ℕ) → length arguments ≤ count → i < count → take (i + 1) (frame_of_locals count arguments).locals ≡ take i (frame_of_locals count arguments).locals ++ get_or arguments i (pos 0) ∷ []
+pub next_local : (arguments : List ℤ) (count i : ℕ) → length arguments ≤ count → i < count
+    → take (i + 1) (frame_of_locals count arguments).locals ≡ take i (frame_of_locals count arguments).locals ++ get_or arguments i (pos 0) ∷ []
 next_local arguments count i enough within =
     let m = count - length arguments in
     let locals = arguments ++ replicate m (pos 0) in
@@ -48,13 +50,16 @@ has_arguments p q f pr there going = by (nat_le pr.arguments (length f.stack)) r
     by true is = grind (arith, nat_tests)
     by false is = absurd (going (rw (there, is) refl))
 
-pub did_call : (p : Parts) (q : ℕ) (f : Frame) (pr : Procedure) (locals : ArrayVec ℤ) (arguments rest : List ℤ) → procedure_at p q ≡ Some pr → pr.arguments ≤ length f.stack
-    → arguments ≡ drop (length f.stack - pr.arguments) f.stack → rest ≡ take (length f.stack - pr.arguments) f.stack → locals.items ≡ (frame_of_locals pr.locals arguments).locals
+pub did_call : (p : Parts) (q : ℕ) (f : Frame) (pr : Procedure) (locals : ArrayVec ℤ) (arguments rest : List ℤ) → procedure_at p q
+    ≡ Some pr → pr.arguments ≤ length f.stack
+    → arguments ≡ drop (length f.stack - pr.arguments) f.stack → rest ≡ take (length f.stack - pr.arguments) f.stack → locals.items
+    ≡ (frame_of_locals pr.locals arguments).locals
     → Did p (Call q) (calls p q f) (Called q locals) (record f { place = f.place + 1; stack = rest })
 did_call p q f pr locals arguments rest there enough top below begun =
     let is : nat_le pr.arguments (length f.stack) ≡ true = grind (arith, nat_tests) in
     (arguments, rw (there, is, top, below) refl, rw there begun)
 
 -- a call without arguments
-pub did_call_alone : (p : Parts) (q : ℕ) (f : Frame) (pr : Procedure) (locals : ArrayVec ℤ) (i : Instruction) → procedure_at p q ≡ Some pr → locals.items ≡ (frame_of_locals pr.locals []).locals → Did p i (Calls q [] (finish_of p i) f) (Called q locals) f
+pub did_call_alone : (p : Parts) (q : ℕ) (f : Frame) (pr : Procedure) (locals : ArrayVec ℤ) (i : Instruction) → procedure_at p q ≡ Some pr
+    → locals.items ≡ (frame_of_locals pr.locals []).locals → Did p i (Calls q [] (finish_of p i) f) (Called q locals) f
 did_call_alone p q f pr locals i there begun = ([], refl, rw there begun)

@@ -1,5 +1,6 @@
 -- How often each BACK was taken.
-use Rattle.std.proofs.Common.{◌≡◌, ℕ, zero, suc, ◌+◌, ◌<◌, ◌≤◌, List, [], ◌∷◌, ◌++◌, length, get_or, set, drop, Some, None, Bool, true, false, ◌==◌, refl, sym, ap, ◌∙◌, arith}
+use Rattle.std.proofs.Common.{◌≡◌, ℕ, zero, suc, ◌+◌, ◌<◌, ◌≤◌, List, [], ◌∷◌, ◌++◌, length, get_or, set, drop, Some, None, Bool, true, false, ◌==◌}
+use Rattle.std.proofs.Common.{refl, sym, ap, ◌∙◌, arith}
 use Rattle.std.specs.Prelude.{slice_get}
 use Rattle.std.specs.List.{position, position_or_len, refill}
 use Rattle.std.proofs.Math.ListN.{length-set}
@@ -31,21 +32,27 @@ module _ (k : ℕ) where
 
   -- THE ENTRY IS THERE
 
-  first_found : (ts : List Turns) (i : ℕ) → i < length ts → is_here (get_or ts i none) ≡ true → NoneBefore ts i → slice_get (taken_of ts) i ≡ Some (k, taken_at (taken_of ts) k)
+  first_found : (ts : List Turns) (i : ℕ) → i < length ts → is_here (get_or ts i none) ≡ true → NoneBefore ts i → slice_get (taken_of ts) i
+      ≡ Some (k, taken_at (taken_of ts) k)
   first_found [] i within here before = absurd (omega arith)
   first_found (t ∷ ts) zero within here before = rw here (ap (λ place. Some (place, t.count)) (eqb-true t.place k here))
   first_found (t ∷ ts) (suc i) within here before = rw (before 0 (omega arith)) (first_found ts i (omega arith) here (λ j below. before (suc j) (omega arith)))
 
-  first_taken : (ts : List Turns) (i n : ℕ) → i < length ts → is_here (get_or ts i none) ≡ true → NoneBefore ts i → n ≡ taken_at (taken_of ts) k + 1 → set (taken_of ts) i (k, n) ≡ take_once (taken_of ts) k
+  first_taken : (ts : List Turns) (i n : ℕ) → i < length ts → is_here (get_or ts i none) ≡ true → NoneBefore ts i → n
+      ≡ taken_at (taken_of ts) k + 1 → set (taken_of ts) i (k, n) ≡ take_once (taken_of ts) k
   first_taken [] i n within here before more = absurd (omega arith)
-  first_taken (t ∷ ts) zero n within here before more = rw here (ap (λ place. (place, n) ∷ taken_of ts) (sym (eqb-true t.place k here)) ∙ ap (λ m. (t.place, m) ∷ taken_of ts) (rw here at more))
+  first_taken (t ∷ ts) zero n within here before more =
+      rw here (ap (λ place. (place, n) ∷ taken_of ts) (sym (eqb-true t.place k here)) ∙ ap (λ m. (t.place, m) ∷ taken_of ts) (rw here at more))
   first_taken (t ∷ ts) (suc i) n within here before more =
-      rw (before 0 (omega arith)) (ap (λ xs. (t.place, t.count) ∷ xs) (first_taken ts i n (omega arith) here (λ j below. before (suc j) (omega arith)) (rw (before 0 (omega arith)) at more)))
+      rw (before 0 (omega arith))
+      (ap (λ xs. (t.place, t.count) ∷ xs)
+      (first_taken ts i n (omega arith) here (λ j below. before (suc j) (omega arith)) (rw (before 0 (omega arith)) at more)))
 
   pub found : (ts : List Turns) (i : ℕ) → position is_here ts ≡ Some i → slice_get (taken_of ts) i ≡ Some (k, taken_at (taken_of ts) k)
   found ts i is = let first = position-Some is_here ts i none is in first_found ts i first.0 first.1 first.2
 
-  pub found_taken : (ts : List Turns) (i n : ℕ) → position is_here ts ≡ Some i → n ≡ taken_at (taken_of ts) k + 1 → set (taken_of ts) i (k, n) ≡ take_once (taken_of ts) k
+  pub found_taken : (ts : List Turns) (i n : ℕ) → position is_here ts ≡ Some i → n ≡ taken_at (taken_of ts) k + 1
+      → set (taken_of ts) i (k, n) ≡ take_once (taken_of ts) k
   found_taken ts i n is more = let first = position-Some is_here ts i none is in first_taken ts i n first.0 first.1 first.2 more
 
   -- THERE IS NO ENTRY
@@ -70,15 +77,19 @@ module _ (k : ℕ) where
   added_last [] before = refl
   added_last (t ∷ ts) before = rw (before 0 (omega arith)) (added_last ts (λ j below. before (suc j) (omega arith)))
 
-  last_taken : (ts : List Turns) (n : ℕ) → NoneBefore ts (length ts) → n ≡ taken_at (taken_of ts) k + 1 → set (taken_of (ts ++ fresh ∷ [])) (length ts) (k, n) ≡ take_once (taken_of ts) k
+  last_taken : (ts : List Turns) (n : ℕ) → NoneBefore ts (length ts) → n ≡ taken_at (taken_of ts) k + 1
+      → set (taken_of (ts ++ fresh ∷ [])) (length ts) (k, n) ≡ take_once (taken_of ts) k
   last_taken [] n before more = let one : n ≡ 1 = omega arith in ap (λ m. (k, m) ∷ []) one
   last_taken (t ∷ ts) n before more =
-      rw (before 0 (omega arith)) (ap (λ xs. (t.place, t.count) ∷ xs) (last_taken ts n (λ j below. before (suc j) (omega arith)) (rw (before 0 (omega arith)) at more)))
+      rw (before 0 (omega arith))
+      (ap (λ xs. (t.place, t.count) ∷ xs) (last_taken ts n (λ j below. before (suc j) (omega arith)) (rw (before 0 (omega arith)) at more)))
 
-  pub added : (ts us : List Turns) (i : ℕ) → position is_here ts ≡ None → us ≡ ts ++ fresh ∷ [] → i ≡ length ts → slice_get (taken_of us) i ≡ Some (k, taken_at (taken_of ts) k)
+  pub added : (ts us : List Turns) (i : ℕ) → position is_here ts ≡ None → us ≡ ts ++ fresh ∷ [] → i ≡ length ts → slice_get (taken_of us) i
+      ≡ Some (k, taken_at (taken_of ts) k)
   added ts us i is more last = rw (more, last) (added_last ts (none_before ts is))
 
-  pub added_taken : (ts us : List Turns) (i n : ℕ) → position is_here ts ≡ None → us ≡ ts ++ fresh ∷ [] → i ≡ length ts → n ≡ taken_at (taken_of ts) k + 1 → set (taken_of us) i (k, n) ≡ take_once (taken_of ts) k
+  pub added_taken : (ts us : List Turns) (i n : ℕ) → position is_here ts ≡ None → us ≡ ts ++ fresh ∷ [] → i ≡ length ts → n
+      ≡ taken_at (taken_of ts) k + 1 → set (taken_of us) i (k, n) ≡ take_once (taken_of ts) k
   added_taken ts us i n is more last once = rw (more, last) (last_taken ts n (none_before ts is) once)
 
   -- READING AND WRITING AN ENTRY
@@ -88,7 +99,8 @@ module _ (k : ℕ) where
   count_read (t ∷ ts) zero n is = let same : (t.place, t.count) ≡ (k, n) = cc in ap (λ (x : ℕ × ℕ). x.1) same
   count_read (t ∷ ts) (suc i) n is = count_read ts i n is
 
-  pub count_written : (ts us : List Turns) (i n : ℕ) → us ≡ ts → taken_of (refill (length ts) ts (set us i (record { place = k; count = n }))) ≡ set (taken_of ts) i (k, n)
+  pub count_written : (ts us : List Turns) (i n : ℕ) → us ≡ ts
+      → taken_of (refill (length ts) ts (set us i (record { place = k; count = n }))) ≡ set (taken_of ts) i (k, n)
   count_written ts us i n is =
       rw is (ap taken_of (refilled ts (set ts i (record { place = k; count = n })) (length-set ts i (record { place = k; count = n })))
       ∙ map-set (λ (t : Turns). (t.place, t.count)) ts i (record { place = k; count = n }))

@@ -5,7 +5,9 @@ use Rattle.std.specs.Option.{IsSome, IsSomeAnd}
 use Rattle.gw_num.specs.Table.{at}
 use Rattle.gw_num.proofs.Tables.{at_some}
 use Rattle.gw_blocks.specs.declared.parts.EntityAttribute.{EntityAttribute}
-use Rattle.gw_blocks.specs.declared.parts.EntityAttribute.TheVariants.{FacilityOwned, StorageContent, StorageRemaining, QueueContent, SavevalueValue, SwitchSetting, ChainMembers, VariableValue, BooleanValue, FunctionValue, BlockEntries, BlockCount}
+use Rattle.gw_blocks.specs.declared.parts.EntityAttribute.TheVariants.{FacilityOwned, StorageContent, StorageRemaining, QueueContent, SavevalueValue}
+use Rattle.gw_blocks.specs.declared.parts.EntityAttribute.TheVariants.{SwitchSetting, ChainMembers, VariableValue, BooleanValue, FunctionValue}
+use Rattle.gw_blocks.specs.declared.parts.EntityAttribute.TheVariants.{BlockEntries, BlockCount}
 use Rattle.gw_blocks.specs.declared.parts.Operand.{Operand}
 use Rattle.gw_blocks.specs.declared.parts.Operand.TheVariants.{Constant, Parameter, Attribute, OfEntity, Random, Procedure}
 use Rattle.gw_object.specs.declared.parts.Entity.{Entity}
@@ -45,7 +47,8 @@ entity_within Is (x ∷ es) (suc e) is = let within = entity_within Is es e is i
 
 module _ (p : Parts) (env : Env) (of : IsOf p env) where
   -- an attribute may be read of an entity that is what it needs, and of any block
-  pub may_read : (attribute : EntityAttribute) (n : ℕ) → IfSome (entity_named (record { attribute = attribute; number = n })) (IsEntity p.entities) → MayRead env attribute n
+  pub may_read : (attribute : EntityAttribute) (n : ℕ)
+      → IfSome (entity_named (record { attribute = attribute; number = n })) (IsEntity p.entities) → MayRead env attribute n
   may_read FacilityOwned f is = let within = entity_within _ p.entities f is in omega (arith, within, of.facilities)
   may_read StorageContent s is = let within = entity_within _ p.entities s is in omega (arith, within, of.storages)
   may_read StorageRemaining s is = let within = entity_within _ p.entities s is in omega (arith, within, of.storages)
@@ -62,7 +65,8 @@ module _ (p : Parts) (env : Env) (of : IsOf p env) where
   -- SOURCES
 
   -- a source that an activation reads without a call may be read
-  pub may_read_kept : (source : Operand) (finish : ℤ → ℤ) (f : Frame) → IsGood p source → reads_source (environment_of env) source finish f ≢ Stuck → ((q : ℕ) → source ≢ Procedure q) → MayReadKept env source
+  pub may_read_kept : (source : Operand) (finish : ℤ → ℤ) (f : Frame) → IsGood p source
+      → reads_source (environment_of env) source finish f ≢ Stuck → ((q : ℕ) → source ≢ Procedure q) → MayReadKept env source
   may_read_kept (Constant z) finish f good moves none = tt
   may_read_kept (Parameter x) finish f good moves none = given_is_some (at None env.parameters.now.values x) (λ v. push_value (finish v) f) moves
   may_read_kept (Attribute a) finish f good moves none = record { number = of.number; clock = of.clock; mark = of.mark }
@@ -71,7 +75,8 @@ module _ (p : Parts) (env : Env) (of : IsOf p env) where
   may_read_kept (Procedure q) finish f good moves none = absurd (none q refl)
 
 -- what is made of a value that is kept comes onto the stack
-pub kept_read : (env : Environment) (source : Operand) (finish : ℤ → ℤ) (f : Frame) (v : ℤ) → kept_value env source ≡ Some v → reads_source env source finish f ≡ push_value (finish v) f
+pub kept_read : (env : Environment) (source : Operand) (finish : ℤ → ℤ) (f : Frame) (v : ℤ) → kept_value env source ≡ Some v
+    → reads_source env source finish f ≡ push_value (finish v) f
 kept_read env (Constant z) finish f v kept = ap (λ o. or_stuck o (λ x. push_value (finish x) f)) kept
 kept_read env (Parameter x) finish f v kept = ap (λ o. or_stuck o (λ x. push_value (finish x) f)) kept
 kept_read env (Attribute a) finish f v kept = ap (λ o. or_stuck o (λ x. push_value (finish x) f)) kept

@@ -1,5 +1,6 @@
 -- There is room to count how often each BACK was taken.
-use Rattle.std.proofs.Common.{◌≡◌, ℕ, zero, suc, ◌+◌, ◌-◌, ◌≤◌, ℤ, List, [], ◌∷◌, ◌++◌, length, take, drop, Option, Some, None, Bool, true, false, if◌then◌else◌, not, ◌==◌, ◌&&◌, ◌||◌, nat_lt, nat_le, Result, Ok, Err, refl, ap, ◌∙◌, subst, arith}
+use Rattle.std.proofs.Common.{◌≡◌, ℕ, zero, suc, ◌+◌, ◌-◌, ◌≤◌, ℤ, List, [], ◌∷◌, ◌++◌, length, take, drop, Option, Some, None, Bool, true, false}
+use Rattle.std.proofs.Common.{if◌then◌else◌, not, ◌==◌, ◌&&◌, ◌||◌, nat_lt, nat_le, Result, Ok, Err, refl, ap, ◌∙◌, subst, arith}
 use Rattle.std.specs.Prelude.{slice_get, slice_set}
 use Rattle.std.proofs.lemmas.Bool.Decides.{nat_tests}
 use Rattle.gw_num.specs.Arithmetic.{is_zero}
@@ -19,7 +20,8 @@ use Rattle.gw_operands.specs.Environment.{Environment, attribute_value}
 use Rattle.gw_operands.specs.Results.{value_by_operand}
 use Rattle.gw_operands.specs.Code.{most_values, procedure_at}
 use Rattle.gw_operands.specs.declared.ends.PlusEnd.TheVariants.{LoopLimit}
-use Rattle.gw_operands.specs.Meaning.{Taken, taken_at, take_once, Frame, Next, Goes, Calls, Returns, Ends, Stuck, on, push_value, or_stuck, pop_value, calculate, calls_with, reads_source, act}
+use Rattle.gw_operands.specs.Meaning.{Taken, taken_at, take_once, Frame, Next, Goes, Calls, Returns, Ends, Stuck, on, push_value, or_stuck, pop_value}
+use Rattle.gw_operands.specs.Meaning.{calculate, calls_with, reads_source, act}
 use Rattle.gw_plus.specs.Activation.{is_taken, untaken_backs, CanCount, CanCountEach}
 
 -- AT FIRST
@@ -37,7 +39,8 @@ room_at_first code few = omega (arith, none_yet code 0)
 
 -- A BACK THAT WASN'T TAKEN YET
 
-one_more : (code : List Instruction) (taken : Taken) (k j m : ℕ) (i : Instruction) → slice_get code j ≡ Some i → is_back i ≡ true → m ≡ k + j → is_taken taken m ≡ false → 1 ≤ untaken_backs taken k code
+one_more : (code : List Instruction) (taken : Taken) (k j m : ℕ) (i : Instruction) → slice_get code j ≡ Some i → is_back i ≡ true → m ≡ k
+    + j → is_taken taken m ≡ false → 1 ≤ untaken_backs taken k code
 one_more [] taken k j m i there back at none = absurd (cc)
 one_more (x ∷ code) taken k zero m i there back at none =
     let here : m ≡ k = omega arith in
@@ -48,7 +51,8 @@ one_more (x ∷ code) taken k (suc j) m i there back at none =
     let rest = one_more code taken (k + 1) j m i there back (omega arith) none in
     omega (arith, rest)
 
-pub room_for : (code : List Instruction) (taken : Taken) (k : ℕ) (i : Instruction) → slice_get code k ≡ Some i → CanCountEach code taken → is_back i ≡ true → CanCount taken k
+pub room_for : (code : List Instruction) (taken : Taken) (k : ℕ) (i : Instruction) → slice_get code k ≡ Some i → CanCountEach code taken
+    → is_back i ≡ true → CanCount taken k
 room_for code taken k i there room back = λ none. let one = one_more code taken 0 k k i there back (omega arith) none in omega (arith, one, room)
 
 -- IT IS TAKEN ONCE MORE
@@ -61,7 +65,8 @@ still_taken : (taken : Taken) (k j : ℕ) → is_taken taken j ≡ true → is_t
 still_taken [] k j is = absurd (cc)
 still_taken (x ∷ taken) k j is = by (x.0 == k) (still_taken taken k j)
   where
-    by : (b : Bool) → (is_taken taken j ≡ true → is_taken (take_once taken k) j ≡ true) → is_taken (if b then (x.0, x.1 + 1) ∷ taken else x ∷ take_once taken k) j ≡ true
+    by : (b : Bool) → (is_taken taken j ≡ true → is_taken (take_once taken k) j ≡ true)
+        → is_taken (if b then (x.0, x.1 + 1) ∷ taken else x ∷ take_once taken k) j ≡ true
     by true rest = is
     by false rest = or_more (x.0 == j) (is_taken taken j) (is_taken (take_once taken k) j) rest is
 
@@ -77,7 +82,8 @@ length-take_once : (taken : Taken) (k : ℕ) → length (take_once taken k) ≡ 
 length-take_once [] k = omega arith
 length-take_once (x ∷ taken) k = by (x.0 == k) (length-take_once taken k)
   where
-    by : (b : Bool) → length (take_once taken k) ≡ length taken + (if is_taken taken k then 0 else 1) → length (if b then (x.0, x.1 + 1) ∷ taken else x ∷ take_once taken k) ≡ suc (length taken) + (if b || is_taken taken k then 0 else 1)
+    by : (b : Bool) → length (take_once taken k) ≡ length taken + (if is_taken taken k then 0 else 1)
+        → length (if b then (x.0, x.1 + 1) ∷ taken else x ∷ take_once taken k) ≡ suc (length taken) + (if b || is_taken taken k then 0 else 1)
     by true rest = omega arith
     by false rest = omega (arith, rest)
 
@@ -94,7 +100,8 @@ untaken_later (x ∷ code) taken m k =
     let first = no_more (is_back x) (is_taken taken k) (is_taken (take_once taken m) k) (still_taken taken m k) in
     omega (arith, first, untaken_later code taken m (k + 1))
 
-one_less : (code : List Instruction) (taken : Taken) (k j m : ℕ) (i : Instruction) → slice_get code j ≡ Some i → is_back i ≡ true → m ≡ k + j → is_taken taken m ≡ false → untaken_backs (take_once taken m) k code + 1 ≤ untaken_backs taken k code
+one_less : (code : List Instruction) (taken : Taken) (k j m : ℕ) (i : Instruction) → slice_get code j ≡ Some i → is_back i ≡ true → m ≡ k
+    + j → is_taken taken m ≡ false → untaken_backs (take_once taken m) k code + 1 ≤ untaken_backs taken k code
 one_less [] taken k j m i there back at none = absurd (cc)
 one_less (x ∷ code) taken k zero m i there back at none =
     let here : m ≡ k = omega arith in
@@ -108,7 +115,8 @@ one_less (x ∷ code) taken k (suc j) m i there back at none =
     let rest = one_less code taken (k + 1) j m i there back (omega arith) none in
     omega (arith, first, rest)
 
-room_once : (code : List Instruction) (taken : Taken) (k : ℕ) (i : Instruction) → slice_get code k ≡ Some i → is_back i ≡ true → CanCountEach code taken → CanCountEach code (take_once taken k)
+room_once : (code : List Instruction) (taken : Taken) (k : ℕ) (i : Instruction) → slice_get code k ≡ Some i → is_back i ≡ true
+    → CanCountEach code taken → CanCountEach code (take_once taken k)
 room_once code taken k i there back room = by (is_taken taken k) refl
   where
     by : (b : Bool) → is_taken taken k ≡ b → CanCountEach code (take_once taken k)
@@ -142,16 +150,19 @@ module _ (code : List Instruction) where
   given_keeps (Some x) next each = each x
 
   popped_keeps : (stack : List ℤ) (next : ℤ → List ℤ → Next) → ((v : ℤ) (rest : List ℤ) → KeepsRoom code (next v rest)) → KeepsRoom code (pop_value stack next)
-  popped_keeps stack next each = given_keeps (slice_get stack (length stack - 1)) (λ v. next v (take (length stack - 1) stack)) (λ v. each v (take (length stack - 1) stack))
+  popped_keeps stack next each =
+      given_keeps (slice_get stack (length stack - 1)) (λ v. next v (take (length stack - 1) stack)) (λ v. each v (take (length stack - 1) stack))
 
   calculated_keeps : (outcome : Result ℤ NumFault) (g : Frame) → CanCountEach code g.taken → KeepsRoom code (calculate outcome g)
   calculated_keeps (Ok v) g room = pushed_keeps v g room
   calculated_keeps (Err fault) g room = tt
 
   -- VALUE of a source
-  read_keeps : (env : Environment) (source : Operand) (finish : ℤ → ℤ) (g : Frame) → CanCountEach code g.taken → KeepsRoom code (reads_source env source finish g)
+  read_keeps : (env : Environment) (source : Operand) (finish : ℤ → ℤ) (g : Frame) → CanCountEach code g.taken
+      → KeepsRoom code (reads_source env source finish g)
   read_keeps env (operands.Constant z) finish g room = pushed_keeps (finish z) g room
-  read_keeps env (operands.Parameter x) finish g room = given_keeps (at None env.parameters x) (λ v. push_value (finish v) g) (λ v. pushed_keeps (finish v) g room)
+  read_keeps env (operands.Parameter x) finish g room =
+      given_keeps (at None env.parameters x) (λ v. push_value (finish v) g) (λ v. pushed_keeps (finish v) g room)
   read_keeps env (operands.Attribute a) finish g room = pushed_keeps (finish (attribute_value env a)) g room
   read_keeps env (operands.OfEntity a) finish g room = pushed_keeps (finish (env.of_entity a)) g room
   read_keeps env (operands.Random j) finish g room = tt
@@ -163,14 +174,18 @@ module _ (code : List Instruction) where
     act_keeps (Push v) there = pushed_keeps v (on f) room
     act_keeps (Get local) there = given_keeps (slice_get f.locals local) (λ v. push_value v (on f)) (λ v. pushed_keeps v (on f) room)
     act_keeps (Set local) there =
-        popped_keeps f.stack (λ v rest. if nat_lt local (length f.locals) then Goes (record f { place = f.place + 1; stack = rest; locals = slice_set f.locals local v }) else Stuck) (λ v rest. by v rest (nat_lt local (length f.locals)))
+        popped_keeps f.stack (λ v rest. if nat_lt local (length f.locals) then
+        Goes (record f { place = f.place + 1; stack = rest; locals = slice_set f.locals local v }) else Stuck)
+        (λ v rest. by v rest (nat_lt local (length f.locals)))
       where
-        by : (v : ℤ) (rest : List ℤ) (b : Bool) → KeepsRoom code (if b then Goes (record f { place = f.place + 1; stack = rest; locals = slice_set f.locals local v }) else Stuck)
+        by : (v : ℤ) (rest : List ℤ) (b : Bool)
+            → KeepsRoom code (if b then Goes (record f { place = f.place + 1; stack = rest; locals = slice_set f.locals local v }) else Stuck)
         by v rest true = room
         by v rest false = tt
     act_keeps (Value sna) there = read_keeps env (source_of p.entities (as_operand sna)) (value_by_operand p.entities (as_operand sna)) (on f) room
     act_keeps (Binary operator) there =
-        popped_keeps f.stack (λ right rest. pop_value rest (λ left below. calculate (binary_value operator left right) (record f { place = f.place + 1; stack = below }))) (λ right rest.
+        popped_keeps f.stack (λ right rest. pop_value rest
+        (λ left below. calculate (binary_value operator left right) (record f { place = f.place + 1; stack = below }))) (λ right rest.
         popped_keeps rest (λ left below. calculate (binary_value operator left right) (record f { place = f.place + 1; stack = below })) (λ left below.
         calculated_keeps (binary_value operator left right) (record f { place = f.place + 1; stack = below }) room))
     act_keeps (Unary operator) there =
@@ -178,7 +193,8 @@ module _ (code : List Instruction) where
         calculated_keeps (unary_value operator v) (record f { place = f.place + 1; stack = rest }) room)
     act_keeps Pop there = popped_keeps f.stack (λ v rest. Goes (record f { place = f.place + 1; stack = rest })) (λ v rest. room)
     act_keeps (Jump target) there = room
-    act_keeps (JumpIfZero target) there = popped_keeps f.stack (λ v rest. Goes (record f { place = (if is_zero v then target else f.place + 1); stack = rest })) (λ v rest. room)
+    act_keeps (JumpIfZero target) there =
+        popped_keeps f.stack (λ v rest. Goes (record f { place = (if is_zero v then target else f.place + 1); stack = rest })) (λ v rest. room)
     act_keeps (Back b) there = by (nat_lt (taken_at f.taken f.place) b.count)
       where
         by : (less : Bool) → KeepsRoom code (if less then Goes (record f { place = b.target; taken = take_once f.taken f.place }) else Ends LoopLimit)
@@ -186,7 +202,10 @@ module _ (code : List Instruction) where
         by false = tt
     act_keeps (Call q) there = given_keeps (procedure_at p q) (λ pr. calls_with q pr.arguments (on f)) (λ pr. by pr (nat_le pr.arguments (length f.stack)))
       where
-        by : (pr : Procedure) (b : Bool) → KeepsRoom code (if b then Calls q (drop (length f.stack - pr.arguments) f.stack) (λ v. v) (record f { place = f.place + 1; stack = take (length f.stack - pr.arguments) f.stack }) else Stuck)
+        by : (pr : Procedure) (b : Bool)
+            → KeepsRoom code (if b then
+            Calls q (drop (length f.stack - pr.arguments) f.stack) (λ v. v)
+            (record f { place = f.place + 1; stack = take (length f.stack - pr.arguments) f.stack }) else Stuck)
         by pr true = room
         by pr false = tt
     act_keeps Return there = popped_keeps f.stack (λ v rest. Returns v) (λ v rest. tt)

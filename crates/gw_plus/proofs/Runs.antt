@@ -44,13 +44,16 @@ left p code f = potential p.entities (costs_of p) code f
 same_procedure : (o : Option Procedure) (a b : Procedure) → o ≡ Some a → o ≡ Some b → a ≡ b
 same_procedure o a b first second = cc
 
-pub begin : (p : Parts) (env : Environment) (n : ℕ) (pr : Procedure) (code : List Instruction) (locals : List ℤ) (f : Frame) → HasGoodCode p → procedure_at p n ≡ Some pr → code ≡ pr.code → Begins p env n locals → f ≡ first_frame locals → Standing p env n code locals f
+pub begin : (p : Parts) (env : Environment) (n : ℕ) (pr : Procedure) (code : List Instruction) (locals : List ℤ) (f : Frame)
+    → HasGoodCode p → procedure_at p n ≡ Some pr → code ≡ pr.code → Begins p env n locals → f ≡ first_frame locals → Standing p env n code locals f
 begin p env n pr code locals f good there code_is begins at_first =
     let same = same_procedure (procedure_at p n) begins.procedure pr begins.may.there there in
     let sound = (checked p good.passes n pr there).sound in
     let arguments : length begins.arguments ≡ pr.arguments = begins.may.arguments ∙ ap (λ (x : Procedure). x.arguments) same in
-    let opened : opening_frame (Some pr) begins.arguments ≡ f = ap (λ (x : Procedure). opening_frame (Some x) begins.arguments) (sym same) ∙ ap first_frame (sym begins.locals_are) ∙ sym at_first in
-    let room : CanCountEach pr.code f.taken = subst (λ (g : Frame). CanCountEach pr.code g.taken) (sym at_first) (room_at_first pr.code (good.holds.procedures n pr there).0.backs) in
+    let opened : opening_frame (Some pr) begins.arguments ≡ f = ap (λ (x : Procedure). opening_frame (Some x) begins.arguments) (sym same)
+    ∙ ap first_frame (sym begins.locals_are) ∙ sym at_first in
+    let room : CanCountEach pr.code f.taken =
+    subst (λ (g : Frame). CanCountEach pr.code g.taken) (sym at_first) (room_at_first pr.code (good.holds.procedures n pr there).0.backs) in
     record {
       procedure = pr;
       there = there;
@@ -64,14 +67,17 @@ begin p env n pr code locals f good there code_is begins at_first =
 
 -- EACH STEP
 
-next_act : (p : Parts) (env : Environment) (n : ℕ) (pr : Procedure) (f : Frame) (i : Instruction) → procedure_at p n ≡ Some pr → slice_get pr.code f.place ≡ Some i → next p env n f ≡ act p env i f
+next_act : (p : Parts) (env : Environment) (n : ℕ) (pr : Procedure) (f : Frame) (i : Instruction) → procedure_at p n ≡ Some pr
+    → slice_get pr.code f.place ≡ Some i → next p env n f ≡ act p env i f
 unfolding next
 next_act p env n pr f i there here = rw (there, here) refl
 
-pub inside : (p : Parts) (env : Environment) (n : ℕ) (code : List Instruction) (locals : List ℤ) (f : Frame) → Standing p env n code locals f → f.place < length code
+pub inside : (p : Parts) (env : Environment) (n : ℕ) (code : List Instruction) (locals : List ℤ) (f : Frame)
+    → Standing p env n code locals f → f.place < length code
 inside p env n code locals f s = let within = s.ready.inside in omega (arith, within, ap length s.code_is)
 
-module _ (p : Parts) (env : Environment) (n : ℕ) (code : List Instruction) (locals : List ℤ) (f : Frame) (good : HasGoodCode p) (s : Standing p env n code locals f) where
+module _ (p : Parts) (env : Environment) (n : ℕ) (code : List Instruction) (locals : List ℤ) (f : Frame) (good : HasGoodCode p)
+    (s : Standing p env n code locals f) where
   -- the instruction that comes next
   abbrev i : Instruction
   i = get_or code f.place (Push (pos 0))
@@ -89,7 +95,8 @@ module _ (p : Parts) (env : Environment) (n : ℕ) (code : List Instruction) (lo
   WellHere x = Well p env n pr s.sound.heights (costs_of p) f x
 
   well : WellHere (act p env i f)
-  well = subst WellHere (next_act p env n pr f i s.there here_in) (next_well p env n pr s.sound.heights (costs_of p) s.there good.holds s.sound.each s.needs f s.ready)
+  well = subst WellHere (next_act p env n pr f i s.there here_in)
+      (next_well p env n pr s.sound.heights (costs_of p) s.there good.holds s.sound.each s.needs f s.ready)
 
   pub moves : act p env i f ≢ Stuck
   moves stuck = subst WellHere stuck well
@@ -98,7 +105,8 @@ module _ (p : Parts) (env : Environment) (n : ℕ) (code : List Instruction) (lo
   place = let inside = s.ready.inside in omega (arith, inside, (good.holds.procedures n pr s.there).0.code)
 
   pub holds : InstructionHolds p pr.locals i
-  holds = subst (InstructionHolds p pr.locals) (get_or_from_slice_get pr.code f.place i i here_in) (All-get_or (InstructionHolds p pr.locals) pr.code f.place i s.ready.inside (good.holds.procedures n pr s.there).1)
+  holds = subst (InstructionHolds p pr.locals) (get_or_from_slice_get pr.code f.place i i here_in)
+      (All-get_or (InstructionHolds p pr.locals) pr.code f.place i s.ready.inside (good.holds.procedures n pr s.there).1)
 
   pub room : IsTrue (is_back i) → CanCount f.taken f.place
   room back = room_for code f.taken f.place i here s.room back
@@ -122,7 +130,8 @@ module _ (p : Parts) (env : Environment) (n : ℕ) (code : List Instruction) (lo
   }
 
   pub went_less : (g : Frame) → act p env i f ≡ Goes g → left p code g < left p code f
-  went_less g is = let paid : left p pr.code g + 1 ≤ left p pr.code f = (subst WellHere is well).1 in subst (λ c. left p c g < left p c f) s.code_is (omega (arith, paid))
+  went_less g is = let paid : left p pr.code g + 1 ≤ left p pr.code f = (subst WellHere is well).1 in
+      subst (λ c. left p c g < left p c f) s.code_is (omega (arith, paid))
 
   pub returned : (v : ℤ) (g : Frame) → Did p i (act p env i f) (Returned v) g → (all : ℕ) × Derives p env n (first_frame locals) all (Ok v)
   returned v g is = s.onward 1 (Ok v) (returns (did _ is))
@@ -153,18 +162,22 @@ module _ (p : Parts) (env : Environment) (n : ℕ) (code : List Instruction) (lo
     pub received_moves : (v : ℤ) → push_value v g ≢ Stuck
     received_moves v stuck = let is = (calls_well.answered v).is in absurd (cc)
 
-    from_opening : (count : ℕ) (r : Result ℤ PlusEnd) → Derives p env q (first_frame given.items) count r → Derives p env q (opening_frame (procedure_at p q) d.0) count r
+    from_opening : (count : ℕ) (r : Result ℤ PlusEnd) → Derives p env q (first_frame given.items) count r
+        → Derives p env q (opening_frame (procedure_at p q) d.0) count r
     from_opening count r c =
-        let is : first_frame given.items ≡ opening_frame (procedure_at p q) d.0 = ap first_frame locals_are ∙ ap (λ (o : Option Procedure). opening_frame o d.0) (sym calls_well.there) in
+        let is : first_frame given.items ≡ opening_frame (procedure_at p q) d.0 = ap first_frame locals_are
+        ∙ ap (λ (o : Option Procedure). opening_frame o d.0) (sym calls_well.there) in
         subst (λ h. Derives p env q h count r) is c
 
-    pub called_ended : (count : ℕ) (end : PlusEnd) → Derives p env q (first_frame given.items) count (Err end) → (all : ℕ) × Derives p env n (first_frame locals) all (Err end)
+    pub called_ended : (count : ℕ) (end : PlusEnd) → Derives p env q (first_frame given.items) count (Err end) → (all : ℕ)
+        × Derives p env n (first_frame locals) all (Err end)
     called_ended count end c = s.onward (suc count) (Err end) (call_ends (did _ d.1) (from_opening count (Err end) c))
 
     same_frame : (v : ℤ) (h : Frame) → push_value v g ≡ Goes h → (calls_well.answered v).frame ≡ h
     same_frame v h push = let is = (calls_well.answered v).is in let same : Goes (calls_well.answered v).frame ≡ Goes h = sym is ∙ push in cc
 
-    pub called_gave : (count : ℕ) (v w : ℤ) (h : Frame) → Derives p env q (first_frame given.items) count (Ok v) → w ≡ finish_of p i v → push_value w g ≡ Goes h → Standing p env n code locals h
+    pub called_gave : (count : ℕ) (v w : ℤ) (h : Frame) → Derives p env q (first_frame given.items) count (Ok v) → w ≡ finish_of p i v
+        → push_value w g ≡ Goes h → Standing p env n code locals h
     called_gave count v w h c made push = record {
       procedure = pr;
       there = s.there;
@@ -173,7 +186,8 @@ module _ (p : Parts) (env : Environment) (n : ℕ) (code : List Instruction) (lo
       sound = s.sound;
       ready = subst (Ready pr s.sound.heights) (same_frame w h push) (calls_well.answered w).ready;
       room = subst (KeepsRoom code) push (pushed_keeps code w g (subst (KeepsRoom code) d.1 keeps));
-      onward = λ more r rest. s.onward (suc (count + more)) r (call_gives (did _ d.1) (from_opening count (Ok v) c) (subst (λ x. push_value x g ≡ Goes h) made push) rest);
+      onward = λ more r rest. s.onward (suc (count + more)) r
+          (call_gives (did _ d.1) (from_opening count (Ok v) c) (subst (λ x. push_value x g ≡ Goes h) made push) rest);
     }
 
     pub called_less : (v : ℤ) (h : Frame) → push_value v g ≡ Goes h → left p code h < left p code f

@@ -1,5 +1,6 @@
 -- What an activation of a procedure stands for, and what its steps tell.
-use Rattle.std.specs.Prelude.{◌≡◌, ℕ, ◌+◌, ◌-◌, ◌≤◌, ◌<◌, ℤ, List, [], ◌∷◌, length, map, take, slice_get, slice_set, Option, Some, Result, Bool, false, if◌then◌else◌, not, ◌==◌, ◌&&◌, ◌||◌}
+use Rattle.std.specs.Prelude.{◌≡◌, ℕ, ◌+◌, ◌-◌, ◌≤◌, ◌<◌, ℤ, List, [], ◌∷◌, length, map, take, slice_get, slice_set, Option, Some, Result, Bool}
+use Rattle.std.specs.Prelude.{false, if◌then◌else◌, not, ◌==◌, ◌&&◌, ◌||◌}
 use Rattle.gw_code.specs.Limits.{most_backs}
 use Rattle.gw_code.specs.Grammar.{is_back}
 use Rattle.gw_code.specs.declared.parts.Instruction.{Instruction}
@@ -91,7 +92,8 @@ finish_of p other = λ v. v
 -- an activation did what comes next, which is what this instruction does: it stands here then, and its step tells what was called, returned or ended
 abbrev pub Did : Parts → Instruction → Next → Step → Frame → Type 0
 Did p i next Went f = next ≡ Goes f
-Did p i next (Called q locals) f = (arguments : List ℤ) × (next ≡ Calls q arguments (finish_of p i) f) × (locals.items ≡ (opening_frame (procedure_at p q) arguments).locals)
+Did p i next (Called q locals) f = (arguments : List ℤ) × (next ≡ Calls q arguments (finish_of p i) f)
+    × (locals.items ≡ (opening_frame (procedure_at p q) arguments).locals)
 Did p i next (Returned v) f = next ≡ Returns v
 Did p i next (Ended end) f = next ≡ Ends end
 

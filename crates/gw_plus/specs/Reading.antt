@@ -3,7 +3,9 @@ use Rattle.std.specs.Prelude.{◌≡◌, ℕ, ◌≤◌, ◌<◌, ◌^◌, pos, 
 use Rattle.std.specs.Option.{IsSome}
 use Rattle.gw_num.specs.Table.{at}
 use Rattle.gw_blocks.specs.declared.parts.EntityAttribute.{EntityAttribute}
-use Rattle.gw_blocks.specs.declared.parts.EntityAttribute.TheVariants.{FacilityOwned, StorageContent, StorageRemaining, QueueContent, SavevalueValue, SwitchSetting, ChainMembers, VariableValue, BooleanValue, FunctionValue, BlockEntries, BlockCount}
+use Rattle.gw_blocks.specs.declared.parts.EntityAttribute.TheVariants.{FacilityOwned, StorageContent, StorageRemaining, QueueContent, SavevalueValue}
+use Rattle.gw_blocks.specs.declared.parts.EntityAttribute.TheVariants.{SwitchSetting, ChainMembers, VariableValue, BooleanValue, FunctionValue}
+use Rattle.gw_blocks.specs.declared.parts.EntityAttribute.TheVariants.{BlockEntries, BlockCount}
 use Rattle.gw_blocks.specs.declared.parts.Numbered.{Numbered}
 use Rattle.gw_blocks.specs.declared.parts.Operand.{Operand}
 use Rattle.gw_blocks.specs.declared.parts.Operand.TheVariants as operands
@@ -65,7 +67,8 @@ pub record AttributesFit (env : Env) : Type 0 where
   pub clock : pos 0 ≤ℤ env.clock
   pub mark : pos 0 ≤ℤ env.mark
 
--- an attribute of an entity or a block may be read: the table has an entry for the entity, or an i64 holds the block's count; nothing is asked where nothing is kept
+-- an attribute of an entity or a block may be read: the table has an entry for the entity, or an i64 holds the block's
+-- count; nothing is asked where nothing is kept
 abbrev pub MayRead : Env → EntityAttribute → ℕ → Type 0
 MayRead env FacilityOwned f = f < length env.facilities.now.values
 MayRead env StorageContent s = s < length env.storages.now.values

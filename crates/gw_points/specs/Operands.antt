@@ -1,5 +1,6 @@
 -- Where the number of a name stands on a line.
-use Rattle.std.specs.Prelude.{ℕ, ◌-◌, List, [], ◌∷◌, ◌++◌, length, take, ℤ, codes, Bool, false, ◌==◌, if◌then◌else◌, Option, Some, None, is_none, option_and_then, option_map}
+use Rattle.std.specs.Prelude.{ℕ, ◌-◌, List, [], ◌∷◌, ◌++◌, length, take, ℤ, codes, Bool, false, ◌==◌, if◌then◌else◌, Option, Some, None, is_none}
+use Rattle.std.specs.Prelude.{option_and_then, option_map}
 use Rattle.std.specs.Fmt.{signed_decimal}
 use Rattle.std.specs.Str.{str_eq_ignore_ascii_case}
 use Rattle.gw_text_tokens.specs.Heads.{front_name, behind_label}

@@ -1,5 +1,6 @@
 -- What `NAME=2,3` asks for.
-use Rattle.std.specs.Prelude.{◌≡◌, Result, MatchResult, ℕ, ◌+◌, ◌^◌, nat_lt, List, [], ◌∷◌, ◌++◌, length, take, drop, ℤ, pos, neg_ℤ, Bool, ◌==◌, ◌&&◌, if◌then◌else◌, Option, Some, None, option_and_then, option_map}
+use Rattle.std.specs.Prelude.{◌≡◌, Result, MatchResult, ℕ, ◌+◌, ◌^◌, nat_lt, List, [], ◌∷◌, ◌++◌, length, take, drop, ℤ, pos, neg_ℤ, Bool, ◌==◌, ◌&&◌}
+use Rattle.std.specs.Prelude.{if◌then◌else◌, Option, Some, None, option_and_then, option_map}
 use Rattle.std.specs.List.{slice_split, position_or_len}
 use Rattle.gw_num.specs.Numerals.{is_number}
 use Rattle.gw_text_tokens.specs.Numbers.{spelled_number}

@@ -1,5 +1,6 @@
 -- A text with another number on the line of a name.
-use Rattle.std.specs.Prelude.{◌≡◌, ℕ, ◌+◌, ◌<◌, List, [], ◌∷◌, ◌++◌, slice_index_or, ℤ, is_some, ◌==◌, if◌then◌else◌, Option, Some, None, Result, MatchResult, Vec, map}
+use Rattle.std.specs.Prelude.{◌≡◌, ℕ, ◌+◌, ◌<◌, List, [], ◌∷◌, ◌++◌, slice_index_or, ℤ, is_some, ◌==◌, if◌then◌else◌, Option, Some, None, Result}
+use Rattle.std.specs.Prelude.{MatchResult, Vec, map}
 use Rattle.std.specs.Borrow.{Bor}
 use Rattle.std.specs.Global.{Global}
 use Rattle.gw_points.specs.Operands.{operand_of, cut_of, with_number_between}

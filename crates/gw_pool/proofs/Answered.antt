@@ -11,6 +11,7 @@ collected : (j : Job) (row : Result Row JobFault) (reply : Reply) → IsCollecte
 collected j (Err fault) reply h = absurd h
 collected j (Ok row) reply h = record { steps = row.steps; state = h.state; alone = h.alone; final = rw h.ended refl; report = h.report }
 
-pub all_collected : (j : Job) (row : Result Row JobFault) (answer : Result Reply JobFault) → IfOk answer (IsCollected j row) → IfOk answer (λ reply. Ends j reply.report.items)
+pub all_collected : (j : Job) (row : Result Row JobFault) (answer : Result Reply JobFault) → IfOk answer (IsCollected j row)
+    → IfOk answer (λ reply. Ends j reply.report.items)
 all_collected j row (Ok reply) h = collected j row reply h
 all_collected j row (Err fault) h = tt

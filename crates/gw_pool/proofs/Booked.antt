@@ -20,7 +20,8 @@ cancel_booked k r n s t h is = record {
 }
 
 -- the books say the totals still after a cancel, and after its refusal
-pub cancels_booked : {A E : Type 0} (x : Result A E) (k r n : ℕ) (s t : Service) → IsBooked r n s → IfOk x (λ _. t ≡ with_event (Cancel k) s) → OnErr x (t ≡ s) → IsBooked r n t
+pub cancels_booked : {A E : Type 0} (x : Result A E) (k r n : ℕ) (s t : Service) → IsBooked r n s
+    → IfOk x (λ _. t ≡ with_event (Cancel k) s) → OnErr x (t ≡ s) → IsBooked r n t
 cancels_booked (Ok a) k r n s t h event same = cancel_booked k r n s t h event
 cancels_booked (Err e) k r n s t h event same = subst (IsBooked r n) (sym same) h
 
@@ -33,7 +34,8 @@ submit_booked u j r n s t h is = record {
 }
 
 -- the books say the totals still after a job was added, and after that was refused
-pub adds_booked : {A E : Type 0} (x : Result A E) (u : ℕ) (j : Job) (r n : ℕ) (s t : Service) → IsBooked r n s → IfOk x (λ _. t ≡ with_event (Submit u j) s) → OnErr x (t ≡ s) → IsBooked r n t
+pub adds_booked : {A E : Type 0} (x : Result A E) (u : ℕ) (j : Job) (r n : ℕ) (s t : Service) → IsBooked r n s
+    → IfOk x (λ _. t ≡ with_event (Submit u j) s) → OnErr x (t ≡ s) → IsBooked r n t
 adds_booked (Ok a) u j r n s t h event same = submit_booked u j r n s t h event
 adds_booked (Err e) u j r n s t h event same = subst (IsBooked r n) (sym same) h
 

@@ -20,7 +20,8 @@ abbrev zeros : List ℕ
 zeros = replicate most_jobs 0
 
 zero_at : (k : ℕ) → get_or zeros k 0 ≡ 0
-zero_at k = dite (dec_lt k most_jobs) (λ h. get_or-replicate most_jobs k 0 0 h) (λ h. get_or_past zeros k 0 (omega (arith, length-replicate {A = ℕ} most_jobs 0)))
+zero_at k = dite (dec_lt k most_jobs) (λ h. get_or-replicate most_jobs k 0 0 h)
+    (λ h. get_or_past zeros k 0 (omega (arith, length-replicate {A = ℕ} most_jobs 0)))
 
 -- an empty view fits whatever words there are
 empty_fits : (words : List ℕ) → FitsWords words empty_view
@@ -48,7 +49,8 @@ stays_under ws i n k len small up =
     (λ ne. let there = get_or-set_other ws i k n 0 ne in omega arith)
 
 -- nor does it where a view is told x of it, at most what it became
-told_under : (ws cs : List ℕ) (i n x k : ℕ) → length ws ≡ most_jobs → length cs ≡ most_jobs → i < most_jobs → get_or ws i 0 ≤ n → x ≤ n → get_or cs k 0 ≤ get_or ws k 0
+told_under : (ws cs : List ℕ) (i n x k : ℕ) → length ws ≡ most_jobs → length cs ≡ most_jobs → i < most_jobs → get_or ws i 0 ≤ n → x ≤ n
+    → get_or cs k 0 ≤ get_or ws k 0
     → get_or (set cs i x) k 0 ≤ get_or (set ws i n) k 0
 told_under ws cs i n x k lw lc small up low fits =
     dite (ℕ_discrete k i)
@@ -56,7 +58,8 @@ told_under ws cs i n x k lw lc small up low fits =
     let P : ℕ → Type 0 = λ j. get_or (set cs i x) j 0 ≤ get_or (set ws i n) j 0 in subst P (sym e) (omega arith))
     (λ ne. let there = get_or-set_other ws i k n 0 ne in let mine = get_or-set_other cs i k x 0 ne in omega arith)
 
-stays_bounded : (ws : List ℕ) (i n k : ℕ) → length ws ≡ most_jobs → i < most_jobs → n ≤ most_count → get_or ws k 0 ≤ most_count → get_or (set ws i n) k 0 ≤ most_count
+stays_bounded : (ws : List ℕ) (i n k : ℕ) → length ws ≡ most_jobs → i < most_jobs → n ≤ most_count → get_or ws k 0 ≤ most_count
+    → get_or (set ws i n) k 0 ≤ most_count
 stays_bounded ws i n k lw small top was =
     dite (ℕ_discrete k i)
     (λ e. let here = get_or-set_same ws i n 0 (omega arith) in

@@ -81,5 +81,9 @@ pub fn report(alloc: Global, sim: &Sim) -> Result<Vec<u8>, Memory>
     ensures { IfOk result (λ text. text.items ≡ report_of sim.now) }
 {
     let figures = Figures::of(alloc, sim)?;
-    report_text(alloc, sim.spec().verified_object().object().parts(), &figures)
+    report_text(
+        alloc,
+        sim.spec().verified_object().object().parts(),
+        &figures,
+    )
 }

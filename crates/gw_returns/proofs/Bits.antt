@@ -1,5 +1,6 @@
 -- Words with bits set, and what words have in common, bit by bit.
-use Rattle.std.proofs.Common.{◌≡◌, ◌≢◌, ℕ, zero, suc, ◌<◌, ◌^◌, ◌-◌, ◌*◌, ◌%◌, List, [], ◌∷◌, length, get_or, set, replicate, min, Bool, true, false, ◌==◌, ◌&&◌, ◌||◌, refl, sym, ap, ap₂, subst, ◌∙◌}
+use Rattle.std.proofs.Common.{◌≡◌, ◌≢◌, ℕ, zero, suc, ◌<◌, ◌^◌, ◌-◌, ◌*◌, ◌%◌, List, [], ◌∷◌, length, get_or, set, replicate, min, Bool, true, false}
+use Rattle.std.proofs.Common.{◌==◌, ◌&&◌, ◌||◌, refl, sym, ap, ap₂, subst, ◌∙◌}
 use Rattle.std.proofs.Common.{⊎_elim}
 use Rattle.std.proofs.lemmas.Bool.{cases_eq, eq-eqb, ne_eqb}
 use Rattle.std.specs.Prelude.{All}
@@ -16,20 +17,26 @@ use Rattle.gw_returns.specs.Words.{bit_of, word_at, with_bit, with_bits, common}
 -- ONE BIT
 
 -- a bit that is set stays out of the other places
-pub other_place : (place : ℕ) (words : List ℕ) (c b i : ℕ) → place < 64 → c < length words → i ≢ place → bit_at (word_at (with_bit place words c) b) i ≡ bit_at (word_at words b) i
+pub other_place : (place : ℕ) (words : List ℕ) (c b i : ℕ) → place < 64 → c < length words → i ≢ place
+    → bit_at (word_at (with_bit place words c) b) i ≡ bit_at (word_at words b) i
 other_place place words c b i small within apart =
     ⊎_elim
-    (λ (same : b ≡ c). rw same (ap (λ w. bit_at w i) (get_or-set_same words c (bit_or (word_at words c) (1 * 2 ^ place % 2 ^ 64)) 0 within) ∙ bit_at_set_other w64 (word_at words c) place small i apart))
+    (λ (same : b ≡ c). rw same
+    (ap (λ w. bit_at w i) (get_or-set_same words c (bit_or (word_at words c) (1 * 2 ^ place % 2 ^ 64)) 0 within)
+    ∙ bit_at_set_other w64 (word_at words c) place small i apart))
     (λ (ne : b ≢ c). ap (λ w. bit_at w i) (get_or-set_other words c b (bit_or (word_at words c) (1 * 2 ^ place % 2 ^ 64)) 0 ne))
     (cases_eq b c)
 
 -- in its own place it tells of one more block
-pub same_place : (place : ℕ) (words : List ℕ) (c b : ℕ) (had : Bool) → place < 64 → c < length words → bit_at (word_at words b) place ≡ bit_of had → bit_at (word_at (with_bit place words c) b) place ≡ bit_of ((c == b) || had)
+pub same_place : (place : ℕ) (words : List ℕ) (c b : ℕ) (had : Bool) → place < 64 → c < length words → bit_at (word_at words b) place
+    ≡ bit_of had → bit_at (word_at (with_bit place words c) b) place ≡ bit_of ((c == b) || had)
 same_place place words c b had small within before =
     ⊎_elim
     (λ (same : c ≡ b). rw (eq-eqb c b same) (subst (λ x. bit_at (word_at (with_bit place words c) x) place ≡ 1) same
-    (ap (λ w. bit_at w place) (get_or-set_same words c (bit_or (word_at words c) (1 * 2 ^ place % 2 ^ 64)) 0 within) ∙ bit_at_set_same w64 (word_at words c) place small)))
-    (λ (ne : c ≢ b). rw (ne_eqb c b ne) (ap (λ w. bit_at w place) (get_or-set_other words c b (bit_or (word_at words c) (1 * 2 ^ place % 2 ^ 64)) 0 (λ e. ne (sym e))) ∙ before))
+    (ap (λ w. bit_at w place) (get_or-set_same words c (bit_or (word_at words c) (1 * 2 ^ place % 2 ^ 64)) 0 within)
+    ∙ bit_at_set_same w64 (word_at words c) place small)))
+    (λ (ne : c ≢ b). rw (ne_eqb c b ne)
+    (ap (λ w. bit_at w place) (get_or-set_other words c b (bit_or (word_at words c) (1 * 2 ^ place % 2 ^ 64)) 0 (λ e. ne (sym e))) ∙ before))
     (cases_eq c b)
 
 -- BITS OF BLOCKS
@@ -37,20 +44,24 @@ same_place place words c b had small within before =
 below_set : (words : List ℕ) (c n : ℕ) (bs : List ℕ) → All (λ b. b < length words) bs → All (λ b. b < length (set words c n)) bs
 below_set words c n bs h = rw (length-set words c n) h
 
-pub other_places : (place : ℕ) (bs words : List ℕ) (b i : ℕ) → place < 64 → All (λ c. c < length words) bs → i ≢ place → bit_at (word_at (with_bits place words bs) b) i ≡ bit_at (word_at words b) i
+pub other_places : (place : ℕ) (bs words : List ℕ) (b i : ℕ) → place < 64 → All (λ c. c < length words) bs → i ≢ place
+    → bit_at (word_at (with_bits place words bs) b) i ≡ bit_at (word_at words b) i
 other_places place [] words b i small within apart = refl
 other_places place (c ∷ cs) words b i small within apart =
-    other_places place cs (with_bit place words c) b i small (below_set words c (bit_or (word_at words c) (1 * 2 ^ place % 2 ^ 64)) cs (All-tail (λ x. x < length words) c cs within)) apart
+    other_places place cs (with_bit place words c) b i small
+    (below_set words c (bit_or (word_at words c) (1 * 2 ^ place % 2 ^ 64)) cs (All-tail (λ x. x < length words) c cs within)) apart
     ∙ other_place place words c b i small (All-head (λ x. x < length words) c cs within) apart
 
 or_swap : (x y z : Bool) → (y || (x || z)) ≡ ((x || y) || z)
 or_swap true y z = or-true y
 or_swap false y z = refl
 
-pub same_places : (place : ℕ) (bs words : List ℕ) (b : ℕ) (had : Bool) → place < 64 → All (λ c. c < length words) bs → bit_at (word_at words b) place ≡ bit_of had → bit_at (word_at (with_bits place words bs) b) place ≡ bit_of (lists bs b || had)
+pub same_places : (place : ℕ) (bs words : List ℕ) (b : ℕ) (had : Bool) → place < 64 → All (λ c. c < length words) bs
+    → bit_at (word_at words b) place ≡ bit_of had → bit_at (word_at (with_bits place words bs) b) place ≡ bit_of (lists bs b || had)
 same_places place [] words b had small within before = before
 same_places place (c ∷ cs) words b had small within before =
-    same_places place cs (with_bit place words c) b ((c == b) || had) small (below_set words c (bit_or (word_at words c) (1 * 2 ^ place % 2 ^ 64)) cs (All-tail (λ x. x < length words) c cs within))
+    same_places place cs (with_bit place words c) b ((c == b) || had) small
+    (below_set words c (bit_or (word_at words c) (1 * 2 ^ place % 2 ^ 64)) cs (All-tail (λ x. x < length words) c cs within))
     (same_place place words c b had small (All-head (λ x. x < length words) c cs within) before)
     ∙ ap bit_of (or_swap (c == b) (lists cs b) had)
 
@@ -80,7 +91,8 @@ and_swap true y z = refl
 and_swap false y z = refl
 
 module _ (words : List ℕ) (i : ℕ) (told : ℕ → Bool) (tell : (b : ℕ) → bit_at (word_at words b) i ≡ bit_of (told b)) where
-  common_from : (all : ℕ) (had : Bool) (bs : List ℕ) → bit_at all i ≡ bit_of had → bit_at (fold (λ a b. bit_and a (word_at words b)) all bs) i ≡ bit_of (had && list_all told bs)
+  common_from : (all : ℕ) (had : Bool) (bs : List ℕ) → bit_at all i ≡ bit_of had
+      → bit_at (fold (λ a b. bit_and a (word_at words b)) all bs) i ≡ bit_of (had && list_all told bs)
   common_from all had [] before = before ∙ ap bit_of (and_end had)
     where
       and_end : (x : Bool) → x ≡ (x && true)

@@ -1,5 +1,6 @@
 -- The words of holders, and of columns.
-use Rattle.std.proofs.Common.{◌≡◌, ◌≢◌, ℕ, zero, suc, ◌<◌, ◌≤◌, ◌+◌, ◌*◌, List, [], ◌∷◌, ◌++◌, length, map, Bool, true, false, ◌==◌, ◌&&◌, ◌||◌, refl, sym, ap, ◌∙◌, arith, ⊎_elim}
+use Rattle.std.proofs.Common.{◌≡◌, ◌≢◌, ℕ, zero, suc, ◌<◌, ◌≤◌, ◌+◌, ◌*◌, List, [], ◌∷◌, ◌++◌, length, map, Bool, true, false, ◌==◌, ◌&&◌, ◌||◌, refl}
+use Rattle.std.proofs.Common.{sym, ap, ◌∙◌, arith, ⊎_elim}
 use Rattle.std.proofs.lemmas.Bool.{cases_eq, ne_eqb}
 use Rattle.std.specs.Prelude.{All, nat_lt, replicate}
 use Rattle.std.specs.Int.{bit_at}
@@ -36,16 +37,19 @@ more_holders rows first place words small within before b i =
     let bs = row_blocks rows (first + place) in
     ⊎_elim
     (λ (same : i ≡ place). rw same (here b))
-    (λ (apart : i ≢ place). other_places place bs words b i small within apart ∙ before b i ∙ ap (λ t. bit_of (t && lists (row_blocks rows (first + i)) b)) (same_side i apart))
+    (λ (apart : i ≢ place). other_places place bs words b i small within apart ∙ before b i
+    ∙ ap (λ t. bit_of (t && lists (row_blocks rows (first + i)) b)) (same_side i apart))
     (cases_eq i place)
   where
     or_none : (x : Bool) → (x || false) ≡ x
     or_none true = refl
     or_none false = refl
 
-    here : (b : ℕ) → bit_at (word_at (with_bits place words (row_blocks rows (first + place))) b) place ≡ bit_of (nat_lt place (place + 1) && lists (row_blocks rows (first + place)) b)
+    here : (b : ℕ) → bit_at (word_at (with_bits place words (row_blocks rows (first + place))) b) place
+        ≡ bit_of (nat_lt place (place + 1) && lists (row_blocks rows (first + place)) b)
     here b =
-        same_places place (row_blocks rows (first + place)) words b false small within (before b place ∙ ap (λ t. bit_of (t && lists (row_blocks rows (first + place)) b)) (not_below place place (omega arith)))
+        same_places place (row_blocks rows (first + place)) words b false small within
+        (before b place ∙ ap (λ t. bit_of (t && lists (row_blocks rows (first + place)) b)) (not_below place place (omega arith)))
         ∙ ap bit_of (or_none (lists (row_blocks rows (first + place)) b))
         ∙ ap (λ t. bit_of (t && lists (row_blocks rows (first + place)) b)) (sym (below place (place + 1) (omega arith)))
 
@@ -55,18 +59,22 @@ more_holders rows first place words small within before b i =
 -- COLUMNS
 
 -- the word of a row tells which rows it is within
-pub word_tells : (rows : List ReturnRow) (first : ℕ) (words bs : List ℕ) → TellHolders rows first 64 words → (place : ℕ) → place < 64 → bit_at (common words bs) place ≡ bit_of (are_among bs (row_blocks rows (first + place)))
+pub word_tells : (rows : List ReturnRow) (first : ℕ) (words bs : List ℕ) → TellHolders rows first 64 words → (place : ℕ) → place < 64
+    → bit_at (common words bs) place ≡ bit_of (are_among bs (row_blocks rows (first + place)))
 word_tells rows first words bs tell place small =
-    in_common words place (λ b. lists (row_blocks rows (first + place)) b) (λ b. tell b place ∙ ap (λ t. bit_of (t && lists (row_blocks rows (first + place)) b)) (below place 64 small)) bs small
+    in_common words place (λ b. lists (row_blocks rows (first + place)) b)
+    (λ b. tell b place ∙ ap (λ t. bit_of (t && lists (row_blocks rows (first + place)) b)) (below place 64 small)) bs small
 
 -- the word of the row of a number, where there is one
-pub row_word : (words : List ℕ) (rows : List ReturnRow) (r : ℕ) → r < length rows → word_at (map (λ (row : ReturnRow). common words row.blocks) rows) r ≡ common words (row_blocks rows r)
+pub row_word : (words : List ℕ) (rows : List ReturnRow) (r : ℕ) → r < length rows
+    → word_at (map (λ (row : ReturnRow). common words row.blocks) rows) r ≡ common words (row_blocks rows r)
 row_word words [] r within = absurd (omega arith)
 row_word words (x ∷ xs) zero within = refl
 row_word words (x ∷ xs) (suc r) within = row_word words xs r (omega (arith, within))
 
 -- one column more
-pub more_columns : (rows : List ReturnRow) (columns : List (List ℕ)) (words : List ℕ) → AreFirst rows columns → IsColumn rows (length columns * 64) words → AreFirst rows (columns ++ words ∷ [])
+pub more_columns : (rows : List ReturnRow) (columns : List (List ℕ)) (words : List ℕ) → AreFirst rows columns
+    → IsColumn rows (length columns * 64) words → AreFirst rows (columns ++ words ∷ [])
 more_columns rows columns words before next k within =
     ⊎_elim
     (λ (same : k ≡ length columns). rw (same, get_or_push columns words [] (length columns) refl) next)

@@ -18,7 +18,8 @@ TellHolders rows first count words =
 -- the bits of each row's word tell which of the 64 rows from the first it is within
 pub record IsColumn (rows : List ReturnRow) (first : ℕ) (words : List ℕ) : Type 0 where
   pub full : length words ≡ length rows
-  pub each : (r place : ℕ) → r < length rows → place < 64 → bit_at (word_at words r) place ≡ bit_of (are_among (row_blocks rows r) (row_blocks rows (first + place)))
+  pub each : (r place : ℕ) → r < length rows → place < 64 → bit_at (word_at words r) place
+      ≡ bit_of (are_among (row_blocks rows r) (row_blocks rows (first + place)))
 
 -- the words of each column
 abbrev pub words_of : List (Vec ℕ Global) → List (List ℕ)

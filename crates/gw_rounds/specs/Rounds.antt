@@ -54,7 +54,8 @@ lets_go p c x = is_some (own_table p (targets.Chain c)) && is_unlinked p c x
 
 -- ROUNDS
 
--- whether somebody may go from the block of number b, with this row, to that of number x while no time passes: who joins a user chain goes where its members may go
+-- whether somebody may go from the block of number b, with this row, to that of number x while no time passes: who
+-- joins a user chain goes where its members may go
 abbrev pub goes_in : Parts → ℕ → ℕ → Block → Row → Bool
 goes_in p b x (blocks.Link l) row = lets_go p l.chain x
 goes_in p b x block row = list_any (is_exit_to b x) (exits_with (returns_read block row) block)

@@ -1,5 +1,6 @@
 -- The first broken check, of one element after the other.
-use Rattle.std.proofs.Common.{◌≡◌, ℕ, suc, ◌+◌, ◌≤◌, ◌<◌, List, [], ◌∷◌, ◌++◌, length, drop, Option, Some, None, Result, Ok, Err, Bool, true, false, if◌then◌else◌, refl, sym, ap, ◌∙◌, arith, get_or, drop-cons}
+use Rattle.std.proofs.Common.{◌≡◌, ℕ, suc, ◌+◌, ◌≤◌, ◌<◌, List, [], ◌∷◌, ◌++◌, length, drop, Option, Some, None, Result, Ok, Err, Bool, true, false}
+use Rattle.std.proofs.Common.{if◌then◌else◌, refl, sym, ap, ◌∙◌, arith, get_or, drop-cons}
 use Rattle.std.proofs.lemmas.List.{drop_all}
 use Rattle.gw_object.specs.declared.fault.Fault.{Fault}
 use Rattle.gw_rules.specs.Checks.{Check, first_broken, checks_by_number, Finds}
@@ -21,12 +22,15 @@ first_broken-append (c ∷ cs) ds =
 add_one : (i : ℕ) → i + 1 ≡ suc i
 add_one i = omega arith
 
-module _ {A : Type 0} (f : ℕ → A → List Check) (number : ℕ) (xs : List A) (i : ℕ) (d : A) (total : Option Fault) (below : i < length xs) (so_far : first_broken (checks_by_number f number (drop i xs)) ≡ total) where
+module _ {A : Type 0} (f : ℕ → A → List Check) (number : ℕ) (xs : List A) (i : ℕ) (d : A) (total : Option Fault) (below : i < length xs)
+    (so_far : first_broken (checks_by_number f number (drop i xs)) ≡ total) where
   one : first (first_broken (f number (get_or xs i d))) (first_broken (checks_by_number f (number + 1) (drop (suc i) xs))) ≡ total
-  one = sym (ap (λ (ys : List A). first_broken (checks_by_number f number ys)) (drop-cons xs i d below) ∙ first_broken-append (f number (get_or xs i d)) (checks_by_number f (number + 1) (drop (suc i) xs))) ∙ so_far
+  one = sym (ap (λ (ys : List A). first_broken (checks_by_number f number ys)) (drop-cons xs i d below)
+      ∙ first_broken-append (f number (get_or xs i d)) (checks_by_number f (number + 1) (drop (suc i) xs))) ∙ so_far
 
   -- nothing is broken at the element of this number: the first fault is that of the later elements
-  pub goes_on : (next : ℕ) → next ≡ number + 1 → first_broken (f number (get_or xs i d)) ≡ None → first_broken (checks_by_number f next (drop (i + 1) xs)) ≡ total
+  pub goes_on : (next : ℕ) → next ≡ number + 1 → first_broken (f number (get_or xs i d)) ≡ None
+      → first_broken (checks_by_number f next (drop (i + 1) xs)) ≡ total
   goes_on next is h =
       ap (λ n. first_broken (checks_by_number f n (drop (i + 1) xs))) is
       ∙ ap (λ k. first_broken (checks_by_number f (number + 1) (drop k xs))) (add_one i)
@@ -37,7 +41,8 @@ module _ {A : Type 0} (f : ℕ → A → List Check) (number : ℕ) (xs : List A
   stops fault h = sym one ∙ ap (λ o. first o (first_broken (checks_by_number f (number + 1) (drop (suc i) xs)))) h
 
 -- no element is left
-pub is_done : {A : Type 0} (f : ℕ → A → List Check) (number : ℕ) (xs : List A) (i : ℕ) (total : Option Fault) → length xs ≤ i → first_broken (checks_by_number f number (drop i xs)) ≡ total → total ≡ None
+pub is_done : {A : Type 0} (f : ℕ → A → List Check) (number : ℕ) (xs : List A) (i : ℕ) (total : Option Fault) → length xs ≤ i
+    → first_broken (checks_by_number f number (drop i xs)) ≡ total → total ≡ None
 is_done {A} f number xs i total h e = sym e ∙ ap (λ (ys : List A). first_broken (checks_by_number f number ys)) (drop_all i xs h)
 
 -- a fault of the first checks is that of the first and further checks

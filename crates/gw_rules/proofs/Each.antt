@@ -62,4 +62,5 @@ module _ {A : Type 0} (f : ℕ → A → List Check) where
 
   pub from_each : (P : A → Type 0) → ((b : ℕ) (x : A) → P x → Hold (f b x)) → (b : ℕ) (xs : List A) → All P xs → Hold (checks_by_number f b xs)
   from_each P holds b [] h = refl
-  from_each P holds b (x ∷ xs) h = hold_together (f b x) (checks_by_number f (b + 1) xs) (holds b x (All-head P x xs h)) (from_each P holds (b + 1) xs (All-tail P x xs h))
+  from_each P holds b (x ∷ xs) h =
+      hold_together (f b x) (checks_by_number f (b + 1) xs) (holds b x (All-head P x xs h)) (from_each P holds (b + 1) xs (All-tail P x xs h))

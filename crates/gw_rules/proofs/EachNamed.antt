@@ -12,7 +12,8 @@ use Rattle.gw_rules.specs.Kinds.{is_none_or, entity_of, own_entity, block_at, nu
 use Rattle.gw_rules.specs.KindsLaws.{IsEntity, BlockHolds}
 
 -- where one passes a test, if it is there, a test of it and of others is a test of the others
-pub tests_both : {A : Type 0} (test : A → Bool) (o : Option A) (xs : List A) (answer : Bool) → is_none_or o test ≡ true → answer ≡ list_all test xs → answer ≡ list_all test (cons_option o xs)
+pub tests_both : {A : Type 0} (test : A → Bool) (o : Option A) (xs : List A) (answer : Bool) → is_none_or o test ≡ true → answer
+    ≡ list_all test xs → answer ≡ list_all test (cons_option o xs)
 tests_both test None xs answer passes is = is
 tests_both test (Some x) xs answer passes is = rw passes is
 
@@ -35,12 +36,15 @@ module _ {B : Type 0} (P : B → Type 0) where
       All-cons (λ x. IfSome (named x) P) x xs two.0 (each_names named xs two.1)
 
 -- the entity that a value of a block names is there, and is what it is needed as
-pub entities_of_values : (p : Parts) (b : ℕ) (block : Block) → BlockHolds p b block → All (λ value. IfSome (entity_of value) (IsEntity p.entities)) (values block)
+pub entities_of_values : (p : Parts) (b : ℕ) (block : Block) → BlockHolds p b block
+    → All (λ value. IfSome (entity_of value) (IsEntity p.entities)) (values block)
 entities_of_values p b block h =
-    each_names (IsEntity p.entities) entity_of (values block) (own_holds (IsEntity p.entities) (own_entity block) (filter_map entity_of (values block)) h.entities).1
+    each_names (IsEntity p.entities) entity_of (values block)
+    (own_holds (IsEntity p.entities) (own_entity block) (filter_map entity_of (values block)) h.entities).1
 
 -- the block that a value of a block names is there
-pub blocks_of_values : (p : Parts) (b : ℕ) (block : Block) → BlockHolds p b block → All (λ value. IfSome (block_of value) (λ named. IsSome (block_at p.blocks named))) (values block)
+pub blocks_of_values : (p : Parts) (b : ℕ) (block : Block) → BlockHolds p b block
+    → All (λ value. IfSome (block_of value) (λ named. IsSome (block_at p.blocks named))) (values block)
 blocks_of_values p b block h =
     let IsThere : ℕ → Type 0 = λ named. IsSome (block_at p.blocks named) in
     each_names IsThere block_of (values block) (later_hold IsThere (filter_map number_of (ways block)) (filter_map block_of (values block)) h.blocks)

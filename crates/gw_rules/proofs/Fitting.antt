@@ -1,5 +1,6 @@
 -- Fitting: its test decides it, each state fits itself, and what fits is carried on.
-use Rattle.std.proofs.Common.{◌≡◌, ◌≢◌, ◌⊎◌, inl, inr, ⊎_elim, ℕ, ◌≤◌, List, [], ◌∷◌, Option, Some, None, Bool, true, refl, subst, ◌∙◌, arith, nat_le, ◌==◌, ◌&&◌}
+use Rattle.std.proofs.Common.{◌≡◌, ◌≢◌, ◌⊎◌, inl, inr, ⊎_elim, ℕ, ◌≤◌, List, [], ◌∷◌, Option, Some, None, Bool, true, refl, subst, ◌∙◌, arith, nat_le}
+use Rattle.std.proofs.Common.{◌==◌, ◌&&◌}
 use Rattle.std.specs.Prelude.{Decides, IsTrue, nat_eq}
 use Rattle.std.specs.List.{list_all}
 use Rattle.std.specs.Cmp.Lexicographic.{pointwise, bytes_decides}
@@ -23,7 +24,8 @@ included (x ∷ bs) cs h b q =
 included_from : (bs cs : List ℕ) → ((b : ℕ) → lists bs b ≡ true → lists cs b ≡ true) → list_all (λ b. lists cs b) bs ≡ true
 included_from [] cs h = refl
 included_from (x ∷ bs) cs h =
-    and_from (lists cs x) (list_all (λ b. lists cs b) bs) (h x (or_left (x == x) (lists bs x) (eq-eqb x x refl))) (included_from bs cs (λ b q. h b (or_right (x == b) (lists bs b) q)))
+    and_from (lists cs x) (list_all (λ b. lists cs b) bs) (h x (or_left (x == x) (lists bs x) (eq-eqb x x refl)))
+    (included_from bs cs (λ b q. h b (or_right (x == b) (lists bs b) q)))
 
 -- what is tested at each number that has an entry
 each_entry : {X : Type 0} (test : ℕ → Bool) (es : List (ℕ × X)) → list_all (λ e. test e.0) es ≡ true → (n : ℕ) → (entry es n ≡ None) ⊎ (test n ≡ true)

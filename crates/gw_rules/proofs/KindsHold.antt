@@ -1,5 +1,6 @@
 -- What kinds are where their checks hold.
-use Rattle.std.proofs.Common.{◌≡◌, ℕ, zero, suc, ◌<◌, List, [], ◌∷◌, ◌++◌, map, length, Option, Some, None, Bool, true, false, not, nat_lt, if◌then◌else◌, refl, sym, ap, subst, ◌∙◌, arith}
+use Rattle.std.proofs.Common.{◌≡◌, ℕ, zero, suc, ◌<◌, List, [], ◌∷◌, ◌++◌, map, length, Option, Some, None, Bool, true, false, not, nat_lt}
+use Rattle.std.proofs.Common.{if◌then◌else◌, refl, sym, ap, subst, ◌∙◌, arith}
 use Rattle.std.specs.Prelude.{◌&&◌, is_some, filter_map, option_to_list, IfSome, IsTrue}
 use Rattle.std.specs.List.{All, list_all, cons_option}
 use Rattle.std.specs.Option.{IsSome, IsSomeAnd}
@@ -24,12 +25,18 @@ use Rattle.gw_rules.specs.declared.ways.Exit.{Exit}
 use Rattle.gw_rules.specs.Checks.{Check, checks_by_number}
 use Rattle.gw_operands.specs.Sources.{operand_of, values}
 use Rattle.gw_rules.specs.Exits.{leads_to, exits, other_way, ways}
-use Rattle.gw_rules.specs.Kinds.{is_none_or, named_entities, named_procedures, entities_of_row, names_no_other_kind, are_there, is_no_other_kind, is_there, takes_no_arguments, is_procedure, is_block, block_at, is_generate, number_of, block_of, named_blocks, has_named_blocks, leads_to_no_generate, stays_inside, is_call_at, return_rows_of, has_return_rows, names_well, has_plain_argument, has_plain_half, entity_checks, naming_checks, exit_checks, constant_checks, return_checks, row_checks, chain_row, chain_checks, block_checks}
+use Rattle.gw_rules.specs.Kinds.{is_none_or, named_entities, named_procedures, entities_of_row, names_no_other_kind, are_there, is_no_other_kind}
+use Rattle.gw_rules.specs.Kinds.{is_there, takes_no_arguments, is_procedure, is_block, block_at, is_generate, number_of, block_of, named_blocks}
+use Rattle.gw_rules.specs.Kinds.{has_named_blocks, leads_to_no_generate, stays_inside, is_call_at, return_rows_of, has_return_rows, names_well}
+use Rattle.gw_rules.specs.Kinds.{has_plain_argument, has_plain_half, entity_checks, naming_checks, exit_checks, constant_checks, return_checks}
+use Rattle.gw_rules.specs.Kinds.{row_checks, chain_row, chain_checks, block_checks}
 use Rattle.gw_rules.specs.Procedures.{entity_in, procedure_in, block_in, draws_nothing, instruction_checks, procedure_checks}
 use Rattle.gw_rules.specs.Pass.{chain_and_block_checks, row_and_later_checks, return_and_later_checks, procedure_and_later_checks, kinds_checks}
-use Rattle.gw_rules.specs.KindsLaws.{IsEntity, MayBeEntered, TakesNoArguments, EntityHolds, InstructionHolds, ProcedureHolds, ReturnsHold, RowHolds, ChainHolds, BlockHolds, KindsPassAtEachPlace}
+use Rattle.gw_rules.specs.KindsLaws.{IsEntity, MayBeEntered, TakesNoArguments, EntityHolds, InstructionHolds, ProcedureHolds, ReturnsHold, RowHolds}
+use Rattle.gw_rules.specs.KindsLaws.{ChainHolds, BlockHolds, KindsPassAtEachPlace}
 use Rattle.gw_rules.proofs.Each.{Hold, at_number, first_and_others, first_with_others, parts_hold, hold_together, each_holds, all_hold, each_has, from_each}
-use Rattle.gw_rules.proofs.NamedHold.{if_any, tests_any, one_is, one_passes, each_is, each_passes, is_entity, from_entity, takes_none, from_takes_none, operand_if, passes_if}
+use Rattle.gw_rules.proofs.NamedHold.{if_any, tests_any, one_is, one_passes, each_is, each_passes, is_entity, from_entity, takes_none}
+use Rattle.gw_rules.proofs.NamedHold.{from_takes_none, operand_if, passes_if}
 
 -- ENTITIES
 
@@ -111,7 +118,8 @@ module _ (p : Parts) (b : ℕ) where
   are_blocks targets = list_all (λ target. is_some (block_at p.blocks target)) targets
 
   -- a way leads to a block that is there: by its number, or as the next one
-  way_there : (way : Way) (targets : List ℕ) → are_blocks (cons_option (number_of way) targets) ≡ true → stays_inside p.blocks b way ≡ true → (is_some (block_at p.blocks (leads_to b way)) ≡ true) × (are_blocks targets ≡ true)
+  way_there : (way : Way) (targets : List ℕ) → are_blocks (cons_option (number_of way) targets) ≡ true → stays_inside p.blocks b way ≡ true
+      → (is_some (block_at p.blocks (leads_to b way)) ≡ true) × (are_blocks targets ≡ true)
   way_there Falls targets named inside = (inside, named)
   way_there (Goes target) targets named inside = and_parts _ _ named
 
@@ -150,7 +158,8 @@ module _ (p : Parts) (b : ℕ) where
 
   together : (es : List Exit) (others : List Way) → All Leads es → All Goes_on others → All Goes_on (map (λ (exit : Exit). exit.way) es ++ others)
   together [] others h k = k
-  together (e ∷ es) others h k = All-cons Goes_on e.way (map (λ (exit : Exit). exit.way) es ++ others) (All-head Leads e es h) (together es others (All-tail Leads e es h) k)
+  together (e ∷ es) others h k =
+      All-cons Goes_on e.way (map (λ (exit : Exit). exit.way) es ++ others) (All-head Leads e es h) (together es others (All-tail Leads e es h) k)
 
 -- PROCEDURES
 
@@ -173,7 +182,8 @@ checks_from_instruction p n locals k i h =
     let entity = one_passes (is_no_other_kind p.entities) (is_there p.entities) (IsEntity p.entities) (from_entity p.entities) (entity_in i) h.entity in
     let called = tests_any (is_procedure p.procedures) (λ q. q < length p.procedures) (λ q. lt-ltb q (length p.procedures)) (procedure_in i) h.called in
     let block = tests_any (is_block p.blocks) (λ b. IsSome (block_at p.blocks b)) (λ b h. h) (block_in i) h.block in
-    first_with_others _ _ _ (and_from _ _ entity.0 h.draws) (first_with_others _ _ _ (and_from _ _ entity.1 called) (first_with_others _ _ _ block (first_with_others _ _ _ h.numbers refl)))
+    first_with_others _ _ _ (and_from _ _ entity.0 h.draws)
+    (first_with_others _ _ _ (and_from _ _ entity.1 called) (first_with_others _ _ _ block (first_with_others _ _ _ h.numbers refl)))
 
 procedure_from_checks : (p : Parts) (n : ℕ) (pr : Procedure) → Hold (procedure_checks p n pr) → ProcedureHolds p pr
 procedure_from_checks p n pr h = each_has (instruction_checks p n pr.locals) (InstructionHolds p pr.locals) (instruction_from_checks p n pr.locals) 0 pr.code h
@@ -184,7 +194,8 @@ checks_from_procedure p n pr h = from_each (instruction_checks p n pr.locals) (I
 -- THE BLOCK
 
 targets_there : (p : Parts) (block : Block) → has_named_blocks p.blocks block ≡ true → list_all (is_block p.blocks) (filter_map number_of (ways block)) ≡ true
-targets_there p block h = (and_parts _ _ (sym (list_all-append (is_block p.blocks) (filter_map number_of (ways block)) (filter_map block_of (values block))) ∙ h)).0
+targets_there p block h =
+    (and_parts _ _ (sym (list_all-append (is_block p.blocks) (filter_map number_of (ways block)) (filter_map block_of (values block))) ∙ h)).0
 
 -- the entities and the procedures that a block names, and half the range of its time
 abbrev NamingHolds : Parts → Block → Type 0
@@ -193,9 +204,12 @@ NamingHolds p block = All (IsEntity p.entities) (named_entities block) × All (T
 naming_from_checks : (p : Parts) (b : ℕ) (block : Block) → Hold (naming_checks p b block) → NamingHolds p block
 naming_from_checks p b block h =
     let right = first_and_others _ _ _ h in
-    let three = and_parts (names_no_other_kind p.entities (named_entities block) && list_all (takes_no_arguments p.procedures) (named_procedures block)) (has_plain_half block) right.0 in
-    let rights = and_parts (names_no_other_kind p.entities (named_entities block)) (list_all (takes_no_arguments p.procedures) (named_procedures block)) three.0 in
-    let theres = and_parts (are_there p.entities (named_entities block)) (list_all (is_procedure p.procedures) (named_procedures block)) (first_and_others _ _ _ right.1).0 in (
+    let three = and_parts (names_no_other_kind p.entities (named_entities block)
+    && list_all (takes_no_arguments p.procedures) (named_procedures block)) (has_plain_half block) right.0 in
+    let rights = and_parts (names_no_other_kind p.entities (named_entities block))
+    (list_all (takes_no_arguments p.procedures) (named_procedures block)) three.0 in
+    let theres = and_parts (are_there p.entities (named_entities block)) (list_all (is_procedure p.procedures) (named_procedures block))
+    (first_and_others _ _ _ right.1).0 in (
       entities p.entities (named_entities block) rights.0 theres.0,
       each_is (takes_no_arguments p.procedures) (is_procedure p.procedures) (TakesNoArguments p) (takes_none p) (named_procedures block) rights.1 theres.1,
       three.1,
@@ -204,7 +218,8 @@ naming_from_checks p b block h =
 checks_from_naming : (p : Parts) (b : ℕ) (block : Block) → NamingHolds p block → Hold (naming_checks p b block)
 checks_from_naming p b block h =
     let named = from_entities p.entities (named_entities block) h.0 in
-    let called = each_passes (takes_no_arguments p.procedures) (is_procedure p.procedures) (TakesNoArguments p) (from_takes_none p) (named_procedures block) h.1 in
+    let called = each_passes (takes_no_arguments p.procedures) (is_procedure p.procedures) (TakesNoArguments p) (from_takes_none p)
+    (named_procedures block) h.1 in
     first_with_others _ _ _ (and_from _ _ (and_from _ _ named.0 called.0) h.2) (first_with_others _ _ _ (and_from _ _ named.1 called.1) refl)
 
 block_from_checks : (p : Parts) (b : ℕ) (block : Block) → Hold (block_checks p b block) → BlockHolds p b block
@@ -214,7 +229,8 @@ block_from_checks p b block h =
     let naming = naming_from_checks p b block two.0 in
     let named = first_and_others _ _ _ three.0 in
     let enters = first_and_others _ _ _ named.1 in
-    let on = apart p b (exits block) (option_to_list (other_way block)) (lead_on p b (ways block) (targets_there p block named.0) enters.0 (first_and_others _ _ _ enters.1).0) in
+    let on = apart p b (exits block) (option_to_list (other_way block))
+    (lead_on p b (ways block) (targets_there p block named.0) enters.0 (first_and_others _ _ _ enters.1).0) in
     record {
       entities = naming.0;
       procedures = naming.1;
@@ -231,19 +247,23 @@ checks_from_block p b block h =
     hold_together (naming_checks p b block) (exit_checks p.blocks b block ++ constant_checks b block)
     (checks_from_naming p b block (h.entities, h.procedures, h.half))
     (hold_together (exit_checks p.blocks b block) (constant_checks b block)
-    (first_with_others _ _ _ (list_all-from_AllPass (is_block p.blocks) (named_blocks block) h.blocks) (first_with_others _ _ _ on.0 (first_with_others _ _ _ on.1 refl)))
+    (first_with_others _ _ _ (list_all-from_AllPass (is_block p.blocks) (named_blocks block) h.blocks)
+    (first_with_others _ _ _ on.0 (first_with_others _ _ _ on.1 refl)))
     (first_with_others _ _ _ h.constants refl))
 
 -- THE OBJECT
 
 -- at a block, by its number
-block_holds : (p : Parts) (b : ℕ) (block : Block) → Hold (checks_by_number (block_checks p) 1 p.blocks) → block_at p.blocks b ≡ Some block → BlockHolds p b block
+block_holds : (p : Parts) (b : ℕ) (block : Block) → Hold (checks_by_number (block_checks p) 1 p.blocks) → block_at p.blocks b ≡ Some block
+    → BlockHolds p b block
 block_holds p zero block h is = absurd (cc)
-block_holds p (suc i) block h is = block_from_checks p (suc i) block (at_number (block_checks p) block (omega arith) (each_holds (block_checks p) 1 p.blocks i block h is))
+block_holds p (suc i) block h is =
+    block_from_checks p (suc i) block (at_number (block_checks p) block (omega arith) (each_holds (block_checks p) 1 p.blocks i block h is))
 
 -- the checks of an entity's row, where it is a user chain
 chain_from_checks : (p : Parts) (e : ℕ) (entity : Entity) → Hold (chain_checks p e entity) → ChainHolds p e entity
-chain_from_checks p e entity h is = row_from_checks p (places.Chain e) (chain_row p e) (subst (λ so. Hold (if so then row_checks p (places.Chain e) (chain_row p e) else [])) is h)
+chain_from_checks p e entity h is =
+    row_from_checks p (places.Chain e) (chain_row p e) (subst (λ so. Hold (if so then row_checks p (places.Chain e) (chain_row p e) else [])) is h)
 
 checks_from_chain : (p : Parts) (e : ℕ) (entity : Entity) → ChainHolds p e entity → Hold (chain_checks p e entity)
 checks_from_chain p e entity h = by_test (is_chain entity.kind) h
@@ -266,7 +286,8 @@ kinds_pass_at_each_place p =
             each_has (procedure_checks p) (ProcedureHolds p) (procedure_from_checks p) 0 p.procedures five.0,
             each_has (return_checks p) (ReturnsHold p) (returns_from_checks p) 0 p.returns four.0,
             each_has of_rows (λ row. IfSome row (RowHolds p)) (λ b. row_from_checks p (places.Block b)) 1 p.states three.0,
-            λ e entity is. chain_from_checks p e entity (at_number (chain_checks p) entity (omega arith) (each_holds (chain_checks p) 0 p.entities e entity two.0 is)),
+            λ e entity is. chain_from_checks p e entity
+                (at_number (chain_checks p) entity (omega arith) (each_holds (chain_checks p) 0 p.entities e entity two.0 is)),
             λ b block is. block_holds p b block two.1 is,
           ),
       λ h.
@@ -279,6 +300,8 @@ kinds_pass_at_each_place p =
           (hold_together (checks_by_number of_rows 1 p.states) (chain_and_block_checks p)
           (from_each of_rows (λ row. IfSome row (RowHolds p)) (λ b. checks_from_row p (places.Block b)) 1 p.states h.3)
           (hold_together (checks_by_number (chain_checks p) 0 p.entities) (checks_by_number (block_checks p) 1 p.blocks)
-          (all_hold (chain_checks p) 0 p.entities (λ i entity is. at_number (chain_checks p) entity (omega arith) (checks_from_chain p i entity (h.4 i entity is))))
-          (all_hold (block_checks p) 1 p.blocks (λ i block is. at_number (block_checks p) block (omega arith) (checks_from_block p (suc i) block (h.5 (suc i) block is)))))))),
+          (all_hold (chain_checks p) 0 p.entities
+          (λ i entity is. at_number (chain_checks p) entity (omega arith) (checks_from_chain p i entity (h.4 i entity is))))
+          (all_hold (block_checks p) 1 p.blocks
+          (λ i block is. at_number (block_checks p) block (omega arith) (checks_from_block p (suc i) block (h.5 (suc i) block is)))))))),
     )

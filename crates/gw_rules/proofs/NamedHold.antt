@@ -12,7 +12,8 @@ use Rattle.gw_object.specs.declared.parts.Parts.{Parts}
 use Rattle.gw_rules.specs.declared.entities.EntityKind.{EntityKind}
 use Rattle.gw_rules.specs.declared.entities.Named.{Named}
 use Rattle.gw_operands.specs.Sources.{kind_at, procedure_named}
-use Rattle.gw_rules.specs.Kinds.{is_none_or, serves_as, is_no_other_kind, is_there, takes_no_arguments, is_procedure, is_block, block_at, entity_of, block_of, names_well, names_what_is_there, names_a_block}
+use Rattle.gw_rules.specs.Kinds.{is_none_or, serves_as, is_no_other_kind, is_there, takes_no_arguments, is_procedure, is_block, block_at, entity_of}
+use Rattle.gw_rules.specs.Kinds.{block_of, names_well, names_what_is_there, names_a_block}
 use Rattle.gw_rules.specs.KindsLaws.{IsEntity, TakesNoArguments, OperandHolds}
 
 -- ONE TEST
@@ -33,7 +34,8 @@ module _ {A : Type 0} (right there : A → Bool) (Is : A → Type 0) where
   one_is tells None r t = tt
   one_is tells (Some x) r t = tells x r t
 
-  pub one_passes : ((x : A) → Is x → (right x ≡ true) × (there x ≡ true)) → (o : Option A) → IfSome o Is → (is_none_or o right ≡ true) × (is_none_or o there ≡ true)
+  pub one_passes : ((x : A) → Is x → (right x ≡ true) × (there x ≡ true)) → (o : Option A) → IfSome o Is → (is_none_or o right ≡ true)
+      × (is_none_or o there ≡ true)
   one_passes passes None h = (refl, refl)
   one_passes passes (Some x) h = passes x h
 
@@ -54,12 +56,14 @@ module _ {A : Type 0} (right there : A → Bool) (Is : A → Type 0) where
 -- ENTITIES
 
 -- an entity of the right kind that is there
-entity_at : (es : List Entity) (e : ℕ) (needed : EntityKind) → is_none_or (kind_at es e) (serves_as needed) ≡ true → e < length es → IsSomeAnd (kind_at es e) (λ kind. IsTrue (serves_as needed kind))
+entity_at : (es : List Entity) (e : ℕ) (needed : EntityKind) → is_none_or (kind_at es e) (serves_as needed) ≡ true → e < length es
+    → IsSomeAnd (kind_at es e) (λ kind. IsTrue (serves_as needed kind))
 entity_at [] e needed right below = absurd (omega arith)
 entity_at (x ∷ es) zero needed right below = right
 entity_at (x ∷ es) (suc e) needed right below = entity_at es e needed right (omega arith)
 
-from_entity_at : (es : List Entity) (e : ℕ) (needed : EntityKind) → IsSomeAnd (kind_at es e) (λ kind. IsTrue (serves_as needed kind)) → (is_none_or (kind_at es e) (serves_as needed) ≡ true) × (e < length es)
+from_entity_at : (es : List Entity) (e : ℕ) (needed : EntityKind) → IsSomeAnd (kind_at es e) (λ kind. IsTrue (serves_as needed kind))
+    → (is_none_or (kind_at es e) (serves_as needed) ≡ true) × (e < length es)
 from_entity_at [] e needed h = absurd h
 from_entity_at (x ∷ es) zero needed h = (h, omega arith)
 from_entity_at (x ∷ es) (suc e) needed h =
@@ -77,12 +81,14 @@ from_entity es n h =
 -- PROCEDURES
 
 -- a procedure that takes no arguments and is there
-without_arguments : (ps : List Procedure) (q : ℕ) → takes_no_arguments ps q ≡ true → q < length ps → IsSomeAnd (slice_get ps q) (λ (pr : Procedure). pr.arguments ≡ 0)
+without_arguments : (ps : List Procedure) (q : ℕ) → takes_no_arguments ps q ≡ true → q < length ps
+    → IsSomeAnd (slice_get ps q) (λ (pr : Procedure). pr.arguments ≡ 0)
 without_arguments [] q right below = absurd (omega arith)
 without_arguments (pr ∷ ps) zero right below = eqb-true pr.arguments 0 right
 without_arguments (pr ∷ ps) (suc q) right below = without_arguments ps q right (omega arith)
 
-from_without_arguments : (ps : List Procedure) (q : ℕ) → IsSomeAnd (slice_get ps q) (λ (pr : Procedure). pr.arguments ≡ 0) → (takes_no_arguments ps q ≡ true) × (q < length ps)
+from_without_arguments : (ps : List Procedure) (q : ℕ) → IsSomeAnd (slice_get ps q) (λ (pr : Procedure). pr.arguments ≡ 0)
+    → (takes_no_arguments ps q ≡ true) × (q < length ps)
 from_without_arguments [] q h = absurd h
 from_without_arguments (pr ∷ ps) zero h = (eq-eqb pr.arguments 0 h, omega arith)
 from_without_arguments (pr ∷ ps) (suc q) h =
@@ -105,7 +111,8 @@ module _ (p : Parts) where
 
   pub operand_from_tests : (o : Operand) → names_well p o ≡ true → names_what_is_there p o ≡ true → names_a_block p o ≡ true → OperandHolds p o
   operand_from_tests o right there block =
-      let rights = and_parts (is_none_or (entity_of o) (is_no_other_kind p.entities)) (is_none_or (procedure_named o) (takes_no_arguments p.procedures)) right in
+      let rights = and_parts (is_none_or (entity_of o) (is_no_other_kind p.entities))
+      (is_none_or (procedure_named o) (takes_no_arguments p.procedures)) right in
       let theres = and_parts (is_none_or (entity_of o) (is_there p.entities)) (is_none_or (procedure_named o) (is_procedure p.procedures)) there in record {
         entity = one_is (is_no_other_kind p.entities) (is_there p.entities) (IsEntity p.entities) (is_entity p.entities) (entity_of o) rights.0 theres.0;
         called = one_is (takes_no_arguments p.procedures) (is_procedure p.procedures) (TakesNoArguments p) (takes_none p) (procedure_named o) rights.1 theres.1;
@@ -115,17 +122,20 @@ module _ (p : Parts) where
   pub operand_passes : (o : Operand) → OperandHolds p o → (names_well p o ≡ true) × (names_what_is_there p o ≡ true) × (names_a_block p o ≡ true)
   operand_passes o h =
       let entity = one_passes (is_no_other_kind p.entities) (is_there p.entities) (IsEntity p.entities) (from_entity p.entities) (entity_of o) h.entity in
-      let called = one_passes (takes_no_arguments p.procedures) (is_procedure p.procedures) (TakesNoArguments p) (from_takes_none p) (procedure_named o) h.called in (
+      let called = one_passes (takes_no_arguments p.procedures) (is_procedure p.procedures) (TakesNoArguments p) (from_takes_none p)
+      (procedure_named o) h.called in (
         and_from _ _ entity.0 called.0,
         and_from _ _ entity.1 called.1,
         tests_any (is_block p.blocks) BlockIsThere (λ b h. h) (block_of o) h.block,
       )
 
   -- the operand that is evaluated for an entity, if one is
-  pub operand_if : (o : Option Operand) → is_none_or o (names_well p) ≡ true → is_none_or o (names_what_is_there p) ≡ true → is_none_or o (names_a_block p) ≡ true → IfSome o (OperandHolds p)
+  pub operand_if : (o : Option Operand) → is_none_or o (names_well p) ≡ true → is_none_or o (names_what_is_there p) ≡ true
+      → is_none_or o (names_a_block p) ≡ true → IfSome o (OperandHolds p)
   operand_if None right there block = tt
   operand_if (Some o) right there block = operand_from_tests o right there block
 
-  pub passes_if : (o : Option Operand) → IfSome o (OperandHolds p) → (is_none_or o (names_well p) ≡ true) × (is_none_or o (names_what_is_there p) ≡ true) × (is_none_or o (names_a_block p) ≡ true)
+  pub passes_if : (o : Option Operand) → IfSome o (OperandHolds p) → (is_none_or o (names_well p) ≡ true)
+      × (is_none_or o (names_what_is_there p) ≡ true) × (is_none_or o (names_a_block p) ≡ true)
   passes_if None h = (refl, refl, refl)
   passes_if (Some o) h = operand_passes o h

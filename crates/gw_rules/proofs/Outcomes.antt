@@ -12,7 +12,8 @@ use Rattle.gw_operands.specs.declared.ends.PlusEnd.{PlusEnd}
 use Rattle.gw_operands.specs.Environment.{Environment}
 use Rattle.gw_operands.specs.Code.{procedure_at}
 use Rattle.gw_rules.specs.PlusChecks.{Heights}
-use Rattle.gw_operands.specs.Meaning.{Frame, Next, Goes, Calls, Returns, Ends, Stuck, push_value, next, opening_frame, Derives, returns, ends, goes, call_ends, call_gives}
+use Rattle.gw_operands.specs.Meaning.{Frame, Next, Goes, Calls, Returns, Ends, Stuck, push_value, next, opening_frame, Derives, returns, ends, goes}
+use Rattle.gw_operands.specs.Meaning.{call_ends, call_gives}
 use Rattle.gw_rules.specs.PlusLaws.{HasSet}
 use Rattle.gw_rules.proofs.Potential.{cost_drop}
 use Rattle.gw_rules.proofs.PlusSteps.{Fine, Ready, left, Answered, Well, next_well_typed}
@@ -27,19 +28,23 @@ Continues p env n finish g count m (Ok v) r = (h : Frame) × (k : ℕ) × (push_
 -- what a derivation is, by what its first instruction does
 abbrev pub Unrolled : (p : Parts) (env : Environment) → ℕ → Next → ℕ → Result ℤ PlusEnd → Type 0
 Unrolled p env n (Goes g) count r = (k : ℕ) × Derives p env n g k r × (count ≡ suc k)
-Unrolled p env n (Calls q arguments finish g) count r = (m : ℕ) × (a : Result ℤ PlusEnd) × Derives p env q (opening_frame (procedure_at p q) arguments) m a × Continues p env n finish g count m a r
+Unrolled p env n (Calls q arguments finish g) count r = (m : ℕ) × (a : Result ℤ PlusEnd)
+    × Derives p env q (opening_frame (procedure_at p q) arguments) m a × Continues p env n finish g count m a r
 Unrolled p env n (Returns v) count r = (count ≡ 1) × (r ≡ Ok v)
 Unrolled p env n (Ends e) count r = (count ≡ 1) × (r ≡ Err e)
 Unrolled p env n Stuck count r = ⊥
 
-pub unroll : {p : Parts} {env : Environment} {n : ℕ} {f : Frame} {count : ℕ} {r : Result ℤ PlusEnd} → Derives p env n f count r → Unrolled p env n (next p env n f) count r
+pub unroll : {p : Parts} {env : Environment} {n : ℕ} {f : Frame} {count : ℕ} {r : Result ℤ PlusEnd} → Derives p env n f count r
+    → Unrolled p env n (next p env n f) count r
 unroll {p} {env} {n} (returns {v = v} is) = subst (λ x. Unrolled p env n x 1 (Ok v)) (sym is) (refl, refl)
 unroll {p} {env} {n} (ends {e = e} is) = subst (λ x. Unrolled p env n x 1 (Err e)) (sym is) (refl, refl)
 unroll {p} {env} {n} (goes {k = k} {r = r} is d) = subst (λ x. Unrolled p env n x (suc k) r) (sym is) (k, d, refl)
 unroll {p} {env} {n} (call_ends {m = m} {e = e} is d) = subst (λ x. Unrolled p env n x (suc m) (Err e)) (sym is) (m, Err e, d, (refl, refl))
-unroll {p} {env} {n} (call_gives {h = h} {m = m} {k = k} {v = v} {r = r} is d push c) = subst (λ x. Unrolled p env n x (suc (m + k)) r) (sym is) (m, Ok v, d, (h, k, push, c, refl))
+unroll {p} {env} {n} (call_gives {h = h} {m = m} {k = k} {v = v} {r = r} is d push c) =
+    subst (λ x. Unrolled p env n x (suc (m + k)) r) (sym is) (m, Ok v, d, (h, k, push, c, refl))
 
-pub one_outcome : (p : Parts) (env : Environment) (n : ℕ) (f : Frame) (k m : ℕ) (r s : Result ℤ PlusEnd) → Derives p env n f k r → Derives p env n f m s → (k ≡ m) × (r ≡ s)
+pub one_outcome : (p : Parts) (env : Environment) (n : ℕ) (f : Frame) (k m : ℕ) (r s : Result ℤ PlusEnd) → Derives p env n f k r
+    → Derives p env n f m s → (k ≡ m) × (r ≡ s)
 one_outcome p env n f k m r s (returns is) d =
     let u = subst (λ x. Unrolled p env n x m s) is (unroll d) in (sym u.0, sym u.1)
 one_outcome p env n f k m r s (ends is) d =
@@ -72,7 +77,8 @@ pub record Derived (p : Parts) (env : Environment) (n : ℕ) (f : Frame) (most :
 
 -- a procedure has an outcome within its cost wherever it may begin
 abbrev pub Works : Parts → Environment → List ℕ → ℕ → Procedure → Type 0
-Works p env costs q called = (arguments : List ℤ) → procedure_at p q ≡ Some called → length arguments ≡ called.arguments → HasSet env called.needs → Derived p env q (opening_frame (Some called) arguments) (at 0 costs q)
+Works p env costs q called = (arguments : List ℤ) → procedure_at p q ≡ Some called → length arguments ≡ called.arguments
+    → HasSet env called.needs → Derived p env q (opening_frame (Some called) arguments) (at 0 costs q)
 
 module _ (p : Parts) (env : Environment) (n : ℕ) (pr : Procedure) (heights : Heights) (costs : List ℕ) where
   -- an activation that stands as the heights say has an outcome within what is left
@@ -83,14 +89,18 @@ module _ (p : Parts) (env : Environment) (n : ℕ) (pr : Procedure) (heights : H
   abbrev RunsBelow : Frame → Type 0
   RunsBelow f = (h : Frame) → Ready pr heights h → left p env n pr heights costs h + 1 ≤ left p env n pr heights costs f → Runs h
 
-  answered : (f g : Frame) (q m : ℕ) (arguments : List ℤ) (finish : ℤ → ℤ) (a : Result ℤ PlusEnd) → next p env n f ≡ Calls q arguments finish g → Derives p env q (opening_frame (procedure_at p q) arguments) m a → m ≤ at 0 costs q → ((v : ℤ) → Answered p env n pr heights costs f g q v) → RunsBelow f → 1 + at 0 costs q ≤ left p env n pr heights costs f → Runs f
-  answered f g q m arguments finish (Err e) is d within goes_on below most = record { count = suc m; outcome = Err e; derived = call_ends is d; within = omega arith }
+  answered : (f g : Frame) (q m : ℕ) (arguments : List ℤ) (finish : ℤ → ℤ) (a : Result ℤ PlusEnd) → next p env n f
+      ≡ Calls q arguments finish g → Derives p env q (opening_frame (procedure_at p q) arguments) m a → m ≤ at 0 costs q
+      → ((v : ℤ) → Answered p env n pr heights costs f g q v) → RunsBelow f → 1 + at 0 costs q ≤ left p env n pr heights costs f → Runs f
+  answered f g q m arguments finish (Err e) is d within goes_on below most =
+      record { count = suc m; outcome = Err e; derived = call_ends is d; within = omega arith }
   answered f g q m arguments finish (Ok v) is d within goes_on below most =
       let a = goes_on (finish v) in
       let rest = below a.frame a.ready (omega (arith, a.paid)) in
       record { count = suc (m + rest.count); outcome = rest.outcome; derived = call_gives is d a.is rest.derived; within = omega (arith, a.paid, rest.within) }
 
-  follow : ((q : ℕ) (called : Procedure) → q < n → Works p env costs q called) → (f : Frame) (x : Next) → next p env n f ≡ x → Well p env n pr heights costs f x → 1 ≤ left p env n pr heights costs f → RunsBelow f → Runs f
+  follow : ((q : ℕ) (called : Procedure) → q < n → Works p env costs q called) → (f : Frame) (x : Next) → next p env n f ≡ x
+      → Well p env n pr heights costs f x → 1 ≤ left p env n pr heights costs f → RunsBelow f → Runs f
   follow lower f (Goes g) is well some below =
       let rest = below g well.0 well.1 in
       record { count = suc rest.count; outcome = rest.outcome; derived = goes is rest.derived; within = omega (arith, rest.within, well.1) }
@@ -103,9 +113,13 @@ module _ (p : Parts) (env : Environment) (n : ℕ) (pr : Procedure) (heights : H
   follow lower f Stuck is well some below = absurd well
 
   some_left : (f : Frame) → f.place < length pr.code → 1 ≤ left p env n pr heights costs f
-  some_left f inside = omega (arith, cost_drop p.entities costs pr.code f.place (get_or pr.code f.place Return) (slice_get-get_or pr.code f.place Return inside))
+  some_left f inside = omega
+      (arith, cost_drop p.entities costs pr.code f.place (get_or pr.code f.place Return) (slice_get-get_or pr.code f.place Return inside))
 
-  pub run : procedure_at p n ≡ Some pr → ProcedureHolds p pr → All (EntityHolds p) p.entities → ((k : ℕ) (i : Instruction) → slice_get pr.code k ≡ Some i → Fine p n pr heights k i) → HasSet env pr.needs → ((q : ℕ) (called : Procedure) → q < n → Works p env costs q called) → (most : ℕ) (f : Frame) → Ready pr heights f → left p env n pr heights costs f ≤ most → Runs f
+  pub run : procedure_at p n ≡ Some pr → ProcedureHolds p pr → All (EntityHolds p) p.entities
+      → ((k : ℕ) (i : Instruction) → slice_get pr.code k ≡ Some i → Fine p n pr heights k i) → HasSet env pr.needs
+      → ((q : ℕ) (called : Procedure) → q < n → Works p env costs q called) → (most : ℕ) (f : Frame) → Ready pr heights f
+      → left p env n pr heights costs f ≤ most → Runs f
   run there holds entities fine set lower zero f ready le = absurd (omega (arith, some_left f ready.inside))
   run there holds entities fine set lower (suc most) f ready le =
       follow lower f (next p env n f) refl (next_well_typed p env n pr heights costs there holds entities fine set f ready) (some_left f ready.inside)

@@ -73,7 +73,8 @@ module _ (row : Row) where
   kept n (m ∷ ms) here below above =
       ⊎_elim
       (λ (same : m ≡ n).
-      All-cons IsNumber m ms (subst IsNumber (sym same) here) (kept n ms here (rw (le-ltb m n (omega (arith, same))) at below) (rw (le-ltb n m (omega (arith, same))) at above)))
+      All-cons IsNumber m ms (subst IsNumber (sym same) here)
+      (kept n ms here (rw (le-ltb m n (omega (arith, same))) at below) (rw (le-ltb n m (omega (arith, same))) at above)))
       (⊎_elim
       (λ (lt : m < n).
       let p : All IsNumber (m ∷ filter (λ k. nat_lt k n) ms) = rw (lt-ltb m n lt) at below in
@@ -88,8 +89,11 @@ module _ (row : Row) where
   placed : (n : ℕ) (ms : List ℕ) → All IsNumber (with_number n ms) → IsNumber n × All IsNumber ms
   placed n ms h =
       let back = All-back IsNumber (filter (λ m. nat_lt m n) ms) (n ∷ filter (λ m. nat_lt n m) ms) h in
-      let here = All-head IsNumber n (filter (λ m. nat_lt n m) ms) back in
-      (here, kept n ms here (All-front IsNumber (filter (λ m. nat_lt m n) ms) (n ∷ filter (λ m. nat_lt n m) ms) h) (All-tail IsNumber n (filter (λ m. nat_lt n m) ms) back))
+      let here = All-head IsNumber n (filter (λ m. nat_lt n m) ms) back in (
+        here,
+        kept n ms here (All-front IsNumber (filter (λ m. nat_lt m n) ms) (n ∷ filter (λ m. nat_lt n m) ms) h)
+            (All-tail IsNumber n (filter (λ m. nat_lt n m) ms) back),
+      )
 
   in_any_order : (all ns : List ℕ) → All IsNumber (fold (λ ms n. with_number n ms) all ns) → All IsNumber all × All IsNumber ns
   in_any_order all [] h = (h, All-nil IsNumber)
@@ -112,7 +116,8 @@ module _ (row : Row) where
   by_operand p [] h = All-nil (λ o. All IsNumber (parameters_asked p o))
   by_operand p (o ∷ os) h =
       let later = flat_map (parameters_asked p) os in
-      All-cons (λ o. All IsNumber (parameters_asked p o)) o os (All-front IsNumber (parameters_asked p o) later h) (by_operand p os (All-back IsNumber (parameters_asked p o) later h))
+      All-cons (λ o. All IsNumber (parameters_asked p o)) o os (All-front IsNumber (parameters_asked p o) later h)
+      (by_operand p os (All-back IsNumber (parameters_asked p o) later h))
 
   -- where no parameter is known to be set, those that are numbers are none
   no_numbers : (ps : List ℕ) → ((q : ℕ) → kind_of row q ≡ None) → All IsNumber ps → ps ≡ []
@@ -125,7 +130,8 @@ module _ (p : Parts) (table : Table) (b : ℕ) where
   own_rules_hold block row h = All-back Holds (value_rules p block row) (own_rules p block row) h.each_rule
 
   -- each parameter that an operand asks for which is evaluated there is sure to hold a number
-  each_is_number : (block : Block) (row : Row) → MayPass p table b block row → All (λ (o : Operand). All (IsNumber row) (parameters_asked p o)) (evaluation_operands p.entities block)
+  each_is_number : (block : Block) (row : Row) → MayPass p table b block row
+      → All (λ (o : Operand). All (IsNumber row) (parameters_asked p o)) (evaluation_operands p.entities block)
   each_is_number block row h =
       let os = evaluation_operands p.entities block in
       let each = by_each row (parameters_read p os) (All-front Holds (value_rules p block row) (own_rules p block row) h.each_rule) in
@@ -134,11 +140,14 @@ module _ (p : Parts) (table : Table) (b : ℕ) where
   -- the same of a parameter that is among them
   pub values_are_numbers : (block : Block) (row : Row) → MayPass p table b block row →
       All (λ (o : Operand). (q : ℕ) → is_among (parameters_asked p o) q ≡ true → kind_of row q ≡ Some Num) (evaluation_operands p.entities block)
-  values_are_numbers block row h i d within = of_one row (parameters_asked p (get_or (evaluation_operands p.entities block) i d)) (each_is_number block row h i d within)
+  values_are_numbers block row h i d within =
+      of_one row (parameters_asked p (get_or (evaluation_operands p.entities block) i d)) (each_is_number block row h i d within)
 
   -- where no parameter is known to be set, as at a GENERATE, those operands ask for none
-  pub asks_for_none : (block : Block) (row : Row) → MayPass p table b block row → ((q : ℕ) → kind_of row q ≡ None) → All (λ (o : Operand). parameters_asked p o ≡ []) (evaluation_operands p.entities block)
-  asks_for_none block row h none i d within = no_numbers row (parameters_asked p (get_or (evaluation_operands p.entities block) i d)) none (each_is_number block row h i d within)
+  pub asks_for_none : (block : Block) (row : Row) → MayPass p table b block row → ((q : ℕ) → kind_of row q ≡ None)
+      → All (λ (o : Operand). parameters_asked p o ≡ []) (evaluation_operands p.entities block)
+  asks_for_none block row h none i d within =
+      no_numbers row (parameters_asked p (get_or (evaluation_operands p.entities block) i d)) none (each_is_number block row h i d within)
 
   -- what a LOOP counts down is sure to be a number
   pub loop_is_number : (l : Loop) (row : Row) → MayPass p table b (blocks.Loop l) row → kind_of row l.parameter ≡ Some Num

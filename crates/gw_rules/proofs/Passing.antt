@@ -44,7 +44,8 @@ module _ (p : Parts) (table : Table) where
 
   pub may_pass_holds : (b : ℕ) (block : Block) (row : Row) → MayPass p table b block row → Hold (checks_in p table b block (Some row))
   may_pass_holds b block row h =
-      hold_together (rule_checks p b block row) (edge_checks p table b block row) ((rules_decided b block row).1 h.each_rule) ((edges_decided b block row).1 h.each_edge)
+      hold_together (rule_checks p b block row) (edge_checks p table b block row) ((rules_decided b block row).1 h.each_rule)
+      ((edges_decided b block row).1 h.each_edge)
 
   -- the checks of a block without a row hold exactly where it is no GENERATE
   without_row : (b : ℕ) (block : Block) (g : Bool) → (g ≡ true → false ≡ true) → Hold (map (rule_check b) (rules_if p block g))
@@ -54,12 +55,14 @@ module _ (p : Parts) (table : Table) where
   lacks_row : (b : ℕ) (block : Block) (g : Bool) → Hold (map (rule_check b) (rules_if p block g)) → g ≡ true → false ≡ true
   lacks_row b block true h is =
       let values = value_rules p block nothing_known in
-      let parts = parts_hold (map (rule_check b) values) (map (rule_check b) (rule codes.edge_state false ∷ [])) (sym (ap first_broken (map-append (rule_check b) values (rule codes.edge_state false ∷ []))) ∙ h) in
+      let parts = parts_hold (map (rule_check b) values) (map (rule_check b) (rule codes.edge_state false ∷ []))
+      (sym (ap first_broken (map-append (rule_check b) values (rule codes.edge_state false ∷ []))) ∙ h) in
       absurd (cc)
   lacks_row b block false h is = is
 
   -- the checks of a block hold where it has no row and is no GENERATE, or may be passed
-  checks_hold : (b : ℕ) (block : Block) (row : Option Row) → (is_generate (Some block) ≡ true → IsSome row) → ((r : Row) → row ≡ Some r → MayPass p table b block r) → Hold (checks_in p table b block row)
+  checks_hold : (b : ℕ) (block : Block) (row : Option Row) → (is_generate (Some block) ≡ true → IsSome row)
+      → ((r : Row) → row ≡ Some r → MayPass p table b block r) → Hold (checks_in p table b block row)
   checks_hold b block None own passes = without_row b block (is_generate (Some block)) own
   checks_hold b block (Some row) own passes = may_pass_holds b block row (passes row refl)
 
@@ -79,13 +82,15 @@ module _ (p : Parts) (table : Table) where
     arrivals = λ b gen.
         let found = generate_there (block_at p.blocks b) gen in
         arrival b found.0 (table (targets.Block b)) (numbered_holds (checks_at p table) p.blocks b found.0 h found.1) (sym (ap is_generate found.1) ∙ gen);
-    each_row = λ b block row is has. may_pass b block row (subst (λ r. Hold (checks_in p table b block r)) has (numbered_holds (checks_at p table) p.blocks b block h is));
+    each_row = λ b block row is has. may_pass b block row
+        (subst (λ r. Hold (checks_in p table b block r)) has (numbered_holds (checks_at p table) p.blocks b block h is));
   }
 
   passes : FlowHolds p table → FlowPasses p table
   unfolding flow_checks
   passes h =
-      all_numbered_hold (checks_at p table) p.blocks (λ b block is. checks_hold b block (table (targets.Block b)) (λ g. h.arrivals b (ap is_generate is ∙ g)) (λ row has. h.each_row b block row is has))
+      all_numbered_hold (checks_at p table) p.blocks
+      (λ b block is. checks_hold b block (table (targets.Block b)) (λ g. h.arrivals b (ap is_generate is ∙ g)) (λ row has. h.each_row b block row is has))
 
 pub flow_passes_at_each_block : FlowPassesAtEachBlock
 flow_passes_at_each_block p table = (holds p table, passes p table)

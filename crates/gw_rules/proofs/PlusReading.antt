@@ -26,7 +26,8 @@ pub record MayCall (p : Parts) (env : Environment) (n q : ℕ) : Type 0 where
   pub lower : q < n
   pub needs : HasSet env procedure.needs
 
--- what the procedure n may read: a constant, a parameter that is set, an attribute, an attribute of an entity or a block that is kept, or the value of a procedure that it may call
+-- what the procedure n may read: a constant, a parameter that is set, an attribute, an attribute of an entity or a
+-- block that is kept, or the value of a procedure that it may call
 abbrev pub MayRead : Parts → Environment → ℕ → Operand → Type 0
 MayRead p env n (Constant z) = Unit {0}
 MayRead p env n (Parameter x) = (v : ℤ) × (at None env.parameters x ≡ Some v)
@@ -35,7 +36,8 @@ MayRead p env n (OfEntity a) = OperandHolds p (OfEntity a) × (is_evaluated a.at
 MayRead p env n (Random j) = ⊥
 MayRead p env n (ValueOf q) = MayCall p env n q
 
--- what kinds say of a source that code reads: it names what is there, it isn't evaluated for another one itself, nothing is drawn, and the procedure that it calls takes no arguments
+-- what kinds say of a source that code reads: it names what is there, it isn't evaluated for another one itself,
+-- nothing is drawn, and the procedure that it calls takes no arguments
 pub record IsGood (p : Parts) (source : Operand) : Type 0 where
   pub holds : OperandHolds p source
   pub kept : (a : Numbered) → source ≡ OfEntity a → is_evaluated a.attribute ≡ false
@@ -43,7 +45,8 @@ pub record IsGood (p : Parts) (source : Operand) : Type 0 where
   pub called : (q : ℕ) → procedure_named source ≡ Some q → (pr : Procedure) × (procedure_at p q ≡ Some pr) × (pr.arguments ≡ 0)
 
 -- the source of an attribute that an instruction names is good
-pub source_is_good : (p : Parts) (locals : ℕ) (sna : Sna) → All (EntityHolds p) p.entities → InstructionHolds p locals (Value sna) → IsGood p (source_of p.entities (as_operand sna))
+pub source_is_good : (p : Parts) (locals : ℕ) (sna : Sna) → All (EntityHolds p) p.entities → InstructionHolds p locals (Value sna)
+    → IsGood p (source_of p.entities (as_operand sna))
 source_is_good p locals sna each holds =
     let operand = read_holds p locals sna holds in
     record {
@@ -53,7 +56,8 @@ source_is_good p locals sna each holds =
       called = source_takes_none p each (as_operand sna) operand;
     }
 
-may_read_source : (p : Parts) (env : Environment) (n : ℕ) (source : Operand) → IsGood p source → calls_lower n (procedure_named source) ≡ true → HasSet env (asked_by_source p source) → MayRead p env n source
+may_read_source : (p : Parts) (env : Environment) (n : ℕ) (source : Operand) → IsGood p source → calls_lower n (procedure_named source)
+    ≡ true → HasSet env (asked_by_source p source) → MayRead p env n source
 may_read_source p env n (Constant z) good lower set = tt
 may_read_source p env n (Parameter x) good lower set = let same : (x == x) ≡ true = grind (arith, nat_tests) in set x (rw same refl)
 may_read_source p env n (Attribute a) good lower set = tt
@@ -70,5 +74,8 @@ may_read_source p env n (ValueOf q) good lower set =
     }
 
 -- the procedure n may read the source of an attribute that an instruction of its code names
-pub may_read : (p : Parts) (env : Environment) (n locals : ℕ) (sna : Sna) → All (EntityHolds p) p.entities → InstructionHolds p locals (Value sna) → calls_lower n (called_in p.entities (Value sna)) ≡ true → HasSet env (asks_for p (Value sna)) → MayRead p env n (source_of p.entities (as_operand sna))
-may_read p env n locals sna each holds lower set = may_read_source p env n (source_of p.entities (as_operand sna)) (source_is_good p locals sna each holds) lower set
+pub may_read : (p : Parts) (env : Environment) (n locals : ℕ) (sna : Sna) → All (EntityHolds p) p.entities
+    → InstructionHolds p locals (Value sna) → calls_lower n (called_in p.entities (Value sna)) ≡ true → HasSet env (asks_for p (Value sna))
+    → MayRead p env n (source_of p.entities (as_operand sna))
+may_read p env n locals sna each holds lower set =
+    may_read_source p env n (source_of p.entities (as_operand sna)) (source_is_good p locals sna each holds) lower set

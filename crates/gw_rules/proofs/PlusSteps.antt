@@ -1,5 +1,7 @@
 -- One instruction of code that passes its checks: an activation that stands as the heights say isn't stuck, and stands so again after it.
-use Rattle.std.proofs.Common.{◌≡◌, ℕ, ◌+◌, ◌-◌, ◌*◌, ◌<◌, ◌≤◌, List, [], ◌∷◌, ◌++◌, length, take, Option, Some, None, Bool, true, false, refl, sym, ap, ◌∙◌, subst, ⊎_elim, arith, if◌then◌else◌, ◌==◌, nat_le, nat_lt, All, length-append, length-take, length-drop, Result, Ok, Err, ℤ, pos, slice_set, replicate, get_or, suc}
+use Rattle.std.proofs.Common.{◌≡◌, ℕ, ◌+◌, ◌-◌, ◌*◌, ◌<◌, ◌≤◌, List, [], ◌∷◌, ◌++◌, length, take, Option, Some, None, Bool, true, false, refl, sym}
+use Rattle.std.proofs.Common.{ap, ◌∙◌, subst, ⊎_elim, arith, if◌then◌else◌, ◌==◌, nat_le, nat_lt, All, length-append, length-take, length-drop}
+use Rattle.std.proofs.Common.{Result, Ok, Err, ℤ, pos, slice_set, replicate, get_or, suc}
 use Rattle.std.proofs.Math.ListN.{length-set, length-replicate}
 use Rattle.std.proofs.lemmas.Option.{slice_get_within, slice_get-get_or}
 use Rattle.std.proofs.lemmas.Bool.{eqb-true, ltb-true, leb-true, and_parts, or_cases}
@@ -23,10 +25,12 @@ use Rattle.gw_operands.specs.Sources.{source_of, as_operand, procedure_named}
 use Rattle.gw_rules.specs.KindsLaws.{EntityHolds, ProcedureHolds, InstructionHolds}
 use Rattle.gw_operands.specs.declared.ends.PlusEnd.TheVariants.{LoopLimit}
 use Rattle.gw_operands.specs.Environment.{Environment, attribute_value}
-use Rattle.gw_operands.specs.Code.{procedure_at, arguments_of, needs_of, most_values, takes, targets, leads_well, called_in, calls_lower, asks_for, is_among, cost_of_called, cost_of_instruction, cost_of_body}
+use Rattle.gw_operands.specs.Code.{procedure_at, arguments_of, needs_of, most_values, takes, targets, leads_well, called_in, calls_lower, asks_for}
+use Rattle.gw_operands.specs.Code.{is_among, cost_of_called, cost_of_instruction, cost_of_body}
 use Rattle.gw_operands.specs.Results.{value_by_operand}
 use Rattle.gw_rules.specs.PlusChecks.{Heights, height_after}
-use Rattle.gw_operands.specs.Meaning.{taken_at, take_once, Frame, Next, Goes, Calls, Returns, Ends, Stuck, on, push_value, pop_value, calculate, calls_with, reads_source, act, next, opening_frame}
+use Rattle.gw_operands.specs.Meaning.{taken_at, take_once, Frame, Next, Goes, Calls, Returns, Ends, Stuck, on, push_value, pop_value, calculate}
+use Rattle.gw_operands.specs.Meaning.{calls_with, reads_source, act, next, opening_frame}
 use Rattle.gw_rules.specs.PlusLaws.{HasSet, CodeHolds}
 use Rattle.gw_rules.proofs.Potential.{left_turns, potential, cost_drop, cost_later, turn_taken}
 use Rattle.gw_rules.proofs.PlusReading.{MayRead, may_read}
@@ -87,11 +91,13 @@ opened_stands p n pr arguments s =
     record { height = s.start; inside = s.some; locals = omega (arith, length-append arguments zeros, length-replicate (pr.locals - length arguments) (pos 0)) }
 
 -- so does one whose procedure is there
-pub opened_ready : (p : Parts) (n : ℕ) (pr : Procedure) (arguments : List ℤ) → CodeHolds p → procedure_at p n ≡ Some pr → length arguments ≡ pr.arguments → (s : Sound p n pr) → Ready pr s.heights (opening_frame (Some pr) arguments)
+pub opened_ready : (p : Parts) (n : ℕ) (pr : Procedure) (arguments : List ℤ) → CodeHolds p → procedure_at p n ≡ Some pr → length arguments
+    ≡ pr.arguments → (s : Sound p n pr) → Ready pr s.heights (opening_frame (Some pr) arguments)
 opened_ready p n pr arguments holds there count s = opened_stands p n pr arguments s
 
 -- a stack that isn't empty gives its top
-popped_any : (P : Next → Type 0) (stack : List ℤ) (go_on : ℤ → List ℤ → Next) → 0 < length stack → ((v : ℤ) (rest : List ℤ) → length rest + 1 ≡ length stack → P (go_on v rest)) → P (pop_value stack go_on)
+popped_any : (P : Next → Type 0) (stack : List ℤ) (go_on : ℤ → List ℤ → Next) → 0 < length stack
+    → ((v : ℤ) (rest : List ℤ) → length rest + 1 ≡ length stack → P (go_on v rest)) → P (pop_value stack go_on)
 popped_any P stack go_on some each =
     let within : length stack - 1 < length stack = omega arith in
     let top = slice_get-get_or stack (length stack - 1) (pos 0) within in
@@ -162,17 +168,27 @@ module _ (p : Parts) (env : Environment) (n : ℕ) (pr : Procedure) (heights : H
     leads : Lead heights (height_after p i (length f.stack)) (targets f.place i)
     locals : pr.locals ≤ length f.locals
 
-  paid_on : (f g : Frame) (i : Instruction) → slice_get pr.code f.place ≡ Some i → f.place < g.place → g.taken ≡ f.taken → left g + cost_of_instruction p.entities costs i ≤ left f
+  paid_on : (f g : Frame) (i : Instruction) → slice_get pr.code f.place ≡ Some i → f.place < g.place → g.taken ≡ f.taken → left g
+      + cost_of_instruction p.entities costs i ≤ left f
   paid_on f g i here later same =
       let t : left_turns pr.code g.taken ≡ left_turns pr.code f.taken = ap (left_turns pr.code) same in
-      omega (arith, ap (λ x. x * cost_of_body p.entities costs pr.code) t, cost_drop p.entities costs pr.code f.place i here, cost_later p.entities costs pr.code (suc f.place) g.place (omega arith))
+      omega (
+        arith,
+        ap (λ x. x * cost_of_body p.entities costs pr.code) t,
+        cost_drop p.entities costs pr.code f.place i here,
+        cost_later p.entities costs pr.code (suc f.place) g.place (omega arith),
+      )
 
   -- a later instruction comes next
-  goes_on : (f g : Frame) (i : Instruction) (height : ℕ) → slice_get pr.code f.place ≡ Some i → f.place < g.place → g.place < length pr.code → g.taken ≡ f.taken → pr.locals ≤ length g.locals → at None heights g.place ≡ Some height → height ≡ length g.stack → Well f (Goes g)
-  goes_on f g i height here later inside same locals known is = (record { height = known ∙ ap Some is; inside = inside; locals = locals }, omega (arith, paid_on f g i here later same))
+  goes_on : (f g : Frame) (i : Instruction) (height : ℕ) → slice_get pr.code f.place ≡ Some i → f.place < g.place → g.place
+      < length pr.code → g.taken ≡ f.taken → pr.locals ≤ length g.locals → at None heights g.place ≡ Some height → height ≡ length g.stack → Well f (Goes g)
+  goes_on f g i height here later inside same locals known is =
+      (record { height = known ∙ ap Some is; inside = inside; locals = locals }, omega (arith, paid_on f g i here later same))
 
   -- the next instruction comes next, once a value comes onto the stack
-  awaits : (f g : Frame) (i : Instruction) (height : ℕ) → slice_get pr.code f.place ≡ Some i → g.place ≡ f.place + 1 → nat_lt (f.place + 1) (length pr.code) ≡ true → g.taken ≡ f.taken → pr.locals ≤ length g.locals → at None heights (f.place + 1) ≡ Some height → height ≡ length g.stack + 1 → height ≤ most_values → (cost : ℕ) → 1 + cost ≤ cost_of_instruction p.entities costs i → Awaits f g cost
+  awaits : (f g : Frame) (i : Instruction) (height : ℕ) → slice_get pr.code f.place ≡ Some i → g.place ≡ f.place + 1
+      → nat_lt (f.place + 1) (length pr.code) ≡ true → g.taken ≡ f.taken → pr.locals ≤ length g.locals → at None heights (f.place + 1)
+      ≡ Some height → height ≡ length g.stack + 1 → height ≤ most_values → (cost : ℕ) → 1 + cost ≤ cost_of_instruction p.entities costs i → Awaits f g cost
   awaits f g i height here place inside same locals known is room cost least = record {
     room = omega (arith, room, is);
     height = subst (λ (m : ℕ). at None heights m ≡ Some (length g.stack + 1)) (sym place) (known ∙ ap Some is);
@@ -181,33 +197,48 @@ module _ (p : Parts) (env : Environment) (n : ℕ) (pr : Procedure) (heights : H
     paid = omega (arith, paid_on f g i here (omega arith) same);
   }
 
-  source_well : (f : Frame) (finish : ℤ → ℤ) (source : Operand) → MayRead p env n source → Awaits f (on f) (cost_of_called costs (procedure_named source)) → Well f (reads_source env source finish (on f))
+  source_well : (f : Frame) (finish : ℤ → ℤ) (source : Operand) → MayRead p env n source
+      → Awaits f (on f) (cost_of_called costs (procedure_named source)) → Well f (reads_source env source finish (on f))
   source_well f finish (Constant z) may w = push_well f (on f) (finish z) w
   source_well f finish (Parameter x) may w = rw may.1 (push_well f (on f) (finish may.0) w)
   source_well f finish (Attribute a) may w = push_well f (on f) (finish (attribute_value env a)) w
   source_well f finish (OfEntity a) may w = push_well f (on f) (finish (env.of_entity a)) w
   source_well f finish (Random j) may w = absurd may
-  source_well f finish (ValueOf q) may w = record { procedure = may.procedure; there = may.there; lower = may.lower; count = sym may.none; needs = may.needs; answered = λ v. answered f (on f) q v w }
+  source_well f finish (ValueOf q) may w =
+      record {
+        procedure = may.procedure;
+        there = may.there;
+        lower = may.lower;
+        count = sym may.none;
+        needs = may.needs;
+        answered =
+            λ v. answered f (on f) q v w;
+      }
 
-  value_well : (sna : Sna) (f : Frame) → Known f (Value sna) → Well f (reads_source env (source_of p.entities (as_operand sna)) (value_by_operand p.entities (as_operand sna)) (on f))
+  value_well : (sna : Sna) (f : Frame) → Known f (Value sna)
+      → Well f (reads_source env (source_of p.entities (as_operand sna)) (value_by_operand p.entities (as_operand sna)) (on f))
   value_well sna f k =
       let cost = cost_of_called costs (called_in p.entities (Value sna)) in
       source_well f (value_by_operand p.entities (as_operand sna)) (source_of p.entities (as_operand sna))
       (may_read p env n pr.locals sna k.entities k.holds k.calls_lower k.set)
       (awaits f (on f) (Value sna) _ k.here refl k.leads_well refl k.locals k.leads.0 (omega arith) k.room cost (omega arith))
 
-  zero_well : (f : Frame) (target : ℕ) (rest : List ℤ) (zero : Bool) → Known f (JumpIfZero target) → length rest + 1 ≡ length f.stack → Well f (Goes (record f { place = (if zero then target else f.place + 1); stack = rest }))
+  zero_well : (f : Frame) (target : ℕ) (rest : List ℤ) (zero : Bool) → Known f (JumpIfZero target) → length rest + 1 ≡ length f.stack
+      → Well f (Goes (record f { place = (if zero then target else f.place + 1); stack = rest }))
   zero_well f target rest true k l =
       let jumps = and_parts (nat_lt f.place target) (nat_lt target (length pr.code)) k.leads_well in
-      goes_on f (record f { place = target; stack = rest }) (JumpIfZero target) _ k.here (ltb-true _ _ jumps.0) (ltb-true _ _ jumps.1) refl k.locals k.leads.1.0 (omega arith)
+      goes_on f (record f { place = target; stack = rest }) (JumpIfZero target) _ k.here (ltb-true _ _ jumps.0) (ltb-true _ _ jumps.1) refl
+      k.locals k.leads.1.0 (omega arith)
   zero_well f target rest false k l =
       let jumps = and_parts (nat_lt f.place target) (nat_lt target (length pr.code)) k.leads_well in
-      goes_on f (record f { place = f.place + 1; stack = rest }) (JumpIfZero target) _ k.here (omega arith) (omega (arith, ltb-true _ _ jumps.0, ltb-true _ _ jumps.1)) refl k.locals k.leads.0 (omega arith)
+      goes_on f (record f { place = f.place + 1; stack = rest }) (JumpIfZero target) _ k.here (omega arith)
+      (omega (arith, ltb-true _ _ jumps.0, ltb-true _ _ jumps.1)) refl k.locals k.leads.0 (omega arith)
 
   less_left : (left_after left_before body : ℕ) → left_after + 1 ≤ left_before → left_after * body + body ≤ left_before * body
   less_left left_after left_before body less = grind arith
 
-  back_well : (f : Frame) (b : JumpBack) (may : Bool) → Known f (Back b) → nat_lt (taken_at f.taken f.place) b.count ≡ may → Well f (if may then Goes (record f { place = b.target; taken = take_once f.taken f.place }) else Ends LoopLimit)
+  back_well : (f : Frame) (b : JumpBack) (may : Bool) → Known f (Back b) → nat_lt (taken_at f.taken f.place) b.count ≡ may
+      → Well f (if may then Goes (record f { place = b.target; taken = take_once f.taken f.place }) else Ends LoopLimit)
   back_well f b false k is = tt
   back_well f b true k is =
       let code = pr.code in
@@ -215,7 +246,13 @@ module _ (p : Parts) (env : Environment) (n : ℕ) (pr : Procedure) (heights : H
       let le = leb-true b.target f.place k.leads_well in
       let less = turn_taken code f.taken f.place b k.here (ltb-true _ _ is) in (
         record { height = k.leads.0 ∙ ap Some (omega arith); inside = omega (arith, inside, le); locals = k.locals },
-        omega (arith, less_left (left_turns code (take_once f.taken f.place)) (left_turns code f.taken) (cost_of_body p.entities costs code) less, cost_drop p.entities costs code f.place (Back b) k.here, cost_later p.entities costs code 0 b.target (omega arith)),
+        omega (
+          arith,
+          less_left (left_turns code (take_once f.taken f.place)) (left_turns code f.taken)
+              (cost_of_body p.entities costs code) less,
+          cost_drop p.entities costs code f.place (Back b) k.here,
+          cost_later p.entities costs code 0 b.target (omega arith),
+        ),
       )
 
   call_well : (f : Frame) (q : ℕ) (called : Procedure) → procedure_at p q ≡ Some called → Known f (Call q) → Well f (calls_with q called.arguments (on f))
@@ -231,12 +268,14 @@ module _ (p : Parts) (env : Environment) (n : ℕ) (pr : Procedure) (heights : H
         lower = ltb-true q n k.calls_lower;
         count = length-drop m f.stack ∙ omega (arith, k.enough, n_of);
         needs = λ x among. k.set x (subst (λ (y : Option Procedure). is_among (needs_of y) x ≡ true) (sym there) among);
-        answered = λ v. answered f g q v (awaits f g (Call q) _ k.here refl k.leads_well refl k.locals k.leads.0 (omega (arith, l, n_of)) k.room (at 0 costs q) (omega arith));
+        answered = λ v. answered f g q v
+            (awaits f g (Call q) _ k.here refl k.leads_well refl k.locals k.leads.0 (omega (arith, l, n_of)) k.room (at 0 costs q) (omega arith));
       })
 
   act_well : (i : Instruction) (f : Frame) → Known f i → Well f (act p env i f)
   unfolding act
-  act_well (Push v) f k = push_well f (on f) v (awaits f (on f) (Push v) _ k.here refl k.leads_well refl k.locals k.leads.0 (omega arith) k.room 0 (omega arith))
+  act_well (Push v) f k = push_well f (on f) v
+      (awaits f (on f) (Push v) _ k.here refl k.leads_well refl k.locals k.leads.0 (omega arith) k.room 0 (omega arith))
   act_well (Get local) f k =
       let within : local < length f.locals = omega (arith, k.locals, ltb-true local pr.locals k.holds.numbers) in
       let value = slice_get-get_or f.locals local (pos 0) within in
@@ -246,17 +285,20 @@ module _ (p : Parts) (env : Environment) (n : ℕ) (pr : Procedure) (heights : H
       let within : local < length f.locals = omega (arith, k.locals, ltb-true local pr.locals k.holds.numbers) in
       let g = record f { place = f.place + 1; stack = rest; locals = slice_set f.locals local v } in
       if_lt (Well f) local (length f.locals) (Goes g) Stuck within
-      (goes_on f g (Set local) _ k.here (omega arith) (ltb-true _ _ k.leads_well) refl (omega (arith, k.locals, length-set f.locals local v)) k.leads.0 (omega arith)))
+      (goes_on f g (Set local) _ k.here (omega arith) (ltb-true _ _ k.leads_well) refl
+      (omega (arith, k.locals, length-set f.locals local v)) k.leads.0 (omega arith)))
   act_well (Value sna) f k = value_well sna f k
   act_well (Binary operator) f k =
       popped_any (Well f) f.stack _ (omega (arith, k.enough)) (λ right rest l.
       popped_any (Well f) rest _ (omega (arith, k.enough)) (λ first below l2.
       let g = record f { place = f.place + 1; stack = below } in
-      calculated_well f g (binary_value operator first right) (awaits f g (Binary operator) _ k.here refl k.leads_well refl k.locals k.leads.0 (omega arith) k.room 0 (omega arith))))
+      calculated_well f g (binary_value operator first right)
+      (awaits f g (Binary operator) _ k.here refl k.leads_well refl k.locals k.leads.0 (omega arith) k.room 0 (omega arith))))
   act_well (Unary operator) f k =
       popped_any (Well f) f.stack _ (omega (arith, k.enough)) (λ v rest l.
       let g = record f { place = f.place + 1; stack = rest } in
-      calculated_well f g (unary_value operator v) (awaits f g (Unary operator) _ k.here refl k.leads_well refl k.locals k.leads.0 (omega arith) k.room 0 (omega arith)))
+      calculated_well f g (unary_value operator v)
+      (awaits f g (Unary operator) _ k.here refl k.leads_well refl k.locals k.leads.0 (omega arith) k.room 0 (omega arith)))
   act_well Pop f k =
       popped_any (Well f) f.stack (λ v rest. Goes (record f { place = f.place + 1; stack = rest })) (omega (arith, k.enough)) (λ v rest l.
       goes_on f (record f { place = f.place + 1; stack = rest }) Pop _ k.here (omega arith) (ltb-true _ _ k.leads_well) refl k.locals k.leads.0 (omega arith))
@@ -264,7 +306,8 @@ module _ (p : Parts) (env : Environment) (n : ℕ) (pr : Procedure) (heights : H
       let jumps = and_parts (nat_lt f.place target) (nat_lt target (length pr.code)) k.leads_well in
       goes_on f (record f { place = target }) (Jump target) _ k.here (ltb-true _ _ jumps.0) (ltb-true _ _ jumps.1) refl k.locals k.leads.0 (omega arith)
   act_well (JumpIfZero target) f k =
-      popped_any (Well f) f.stack (λ v rest. Goes (record f { place = (if is_zero v then target else f.place + 1); stack = rest })) (omega (arith, k.enough)) (λ v rest l. zero_well f target rest (is_zero v) k l)
+      popped_any (Well f) f.stack (λ v rest. Goes (record f { place = (if is_zero v then target else f.place + 1); stack = rest }))
+      (omega (arith, k.enough)) (λ v rest l. zero_well f target rest (is_zero v) k l)
   act_well (Back b) f k = back_well f b (nat_lt (taken_at f.taken f.place) b.count) k refl
   act_well (Call q) f k =
       let there = slice_get-get_or p.procedures q pr k.holds.called in
@@ -272,7 +315,9 @@ module _ (p : Parts) (env : Environment) (n : ℕ) (pr : Procedure) (heights : H
   act_well Return f k = popped_any (Well f) f.stack (λ v rest. Returns v) (omega (arith, k.enough)) (λ v rest l. tt)
 
   -- an activation that stands as the heights say isn't stuck, where kinds hold
-  pub next_well_typed : procedure_at p n ≡ Some pr → ProcedureHolds p pr → All (EntityHolds p) p.entities → ((k : ℕ) (i : Instruction) → slice_get pr.code k ≡ Some i → Fine p n pr heights k i) → HasSet env pr.needs → (f : Frame) → Ready pr heights f → Well f (next p env n f)
+  pub next_well_typed : procedure_at p n ≡ Some pr → ProcedureHolds p pr → All (EntityHolds p) p.entities
+      → ((k : ℕ) (i : Instruction) → slice_get pr.code k ≡ Some i → Fine p n pr heights k i) → HasSet env pr.needs → (f : Frame)
+      → Ready pr heights f → Well f (next p env n f)
   unfolding next
   next_well_typed there holds entities fine set f ready =
       let i = get_or pr.code f.place Return in
@@ -293,5 +338,7 @@ module _ (p : Parts) (env : Environment) (n : ℕ) (pr : Procedure) (heights : H
       }))
 
   -- nor where the format and kinds hold
-  pub next_well : procedure_at p n ≡ Some pr → CodeHolds p → ((k : ℕ) (i : Instruction) → slice_get pr.code k ≡ Some i → Fine p n pr heights k i) → HasSet env pr.needs → (f : Frame) → Ready pr heights f → Well f (next p env n f)
+  pub next_well : procedure_at p n ≡ Some pr → CodeHolds p
+      → ((k : ℕ) (i : Instruction) → slice_get pr.code k ≡ Some i → Fine p n pr heights k i) → HasSet env pr.needs → (f : Frame)
+      → Ready pr heights f → Well f (next p env n f)
   next_well there holds fine set f ready = next_well_typed there (holds.procedures n pr there).1 holds.entities fine set f ready

@@ -49,8 +49,15 @@ module _ (p : Parts) (env : Environment) (kinds : KindsPass p) (passes : PlusPas
       let f = opening_frame (Some called) arguments in
       let ready = opened_stands p q called arguments s in
       let each = (kinds_pass_at_each_place p).0 kinds in
-      let d = run p env q called s.heights (costs_of p) there (of_procedure p (ProcedureHolds p) q called there each.1) each.0 s.each set (λ x y below. works n x y (omega arith)) (left p env q called s.heights (costs_of p) f) f ready (omega arith) in
-      record { count = d.count; outcome = d.outcome; derived = d.derived; within = omega (arith, d.within, opened_left p.entities (costs_of p) called.code f refl refl, c.cost) }
+      let d = run p env q called s.heights (costs_of p) there (of_procedure p (ProcedureHolds p) q called there each.1) each.0 s.each set
+      (λ x y below. works n x y (omega arith)) (left p env q called s.heights (costs_of p) f) f ready (omega arith) in
+      record {
+        count = d.count;
+        outcome = d.outcome;
+        derived = d.derived;
+        within =
+            omega (arith, d.within, opened_left p.entities (costs_of p) called.code f refl refl, c.cost);
+      }
 
 pub has_outcome_law : HasOutcome
 has_outcome_law p env n pr arguments fits kinds passes may =
@@ -64,7 +71,8 @@ cost_bounds_law p env n pr arguments k r fits kinds passes may derived =
     omega (arith, same.0, d.within)
 
 -- a procedure without arguments comes to its outcome where the parameters that it needs are set, whether the object has a spelling or not
-pub comes_to : (p : Parts) (env : Environment) (n : ℕ) (pr : Procedure) → KindsPass p → PlusPasses p → MayBegin p env n pr [] → (r : Result ℤ PlusEnd) × (outcome_of p env n ≡ Some r) × Evaluates p env n [] r
+pub comes_to : (p : Parts) (env : Environment) (n : ℕ) (pr : Procedure) → KindsPass p → PlusPasses p → MayBegin p env n pr []
+    → (r : Result ℤ PlusEnd) × (outcome_of p env n ≡ Some r) × Evaluates p env n [] r
 unfolding outcome_of
 comes_to p env n pr kinds passes may =
     let d = works p env kinds passes (suc n) n pr (omega arith) [] may.there may.arguments may.needs in

@@ -1,5 +1,6 @@
 -- Rows that have room for what a block adds, and for the block after a return.
-use Rattle.std.proofs.Common.{◌≡◌, ℕ, zero, suc, ◌≤◌, length, map, None, option_map, ap, subst, get_or, IsTrue, ◌<◌, ◌^◌, List, [], ◌∷◌, Option, Some, Bool, true, false, ◌==◌, arith}
+use Rattle.std.proofs.Common.{◌≡◌, ℕ, zero, suc, ◌≤◌, length, map, None, option_map, ap, subst, get_or, IsTrue, ◌<◌, ◌^◌, List, [], ◌∷◌, Option, Some}
+use Rattle.std.proofs.Common.{Bool, true, false, ◌==◌, arith}
 use Rattle.std.specs.Prelude.{All, IfSome, unwrap_or, if◌then◌else◌}
 use Rattle.std.proofs.lemmas.Bool.{false≢true}
 use Rattle.std.proofs.lemmas.List.Elements.{All-nil, All-head, All-tail}
@@ -30,10 +31,12 @@ first_or_later true n later h k = h
 first_or_later false n later h k = k
 
 -- where each entry of a list has room, so does what is read for any entity
-pub entries_have_room : {X : Type 0} (entity number : X → ℕ) (xs : List X) → All (λ x. number x ≤ 2 ^ 62) xs → (e : ℕ) → amount_of (map (λ x. (entity x, number x)) xs) e ≤ 2 ^ 62
+pub entries_have_room : {X : Type 0} (entity number : X → ℕ) (xs : List X) → All (λ x. number x ≤ 2 ^ 62) xs → (e : ℕ)
+    → amount_of (map (λ x. (entity x, number x)) xs) e ≤ 2 ^ 62
 entries_have_room entity number [] h e = omega arith
 entries_have_room entity number (x ∷ xs) h e =
-    first_or_later (entity x == e) (number x) (entry (map (λ y. (entity y, number y)) xs) e) (All-head (λ y. number y ≤ 2 ^ 62) x xs h) (entries_have_room entity number xs (All-tail (λ y. number y ≤ 2 ^ 62) x xs h) e)
+    first_or_later (entity x == e) (number x) (entry (map (λ y. (entity y, number y)) xs) e) (All-head (λ y. number y ≤ 2 ^ 62) x xs h)
+    (entries_have_room entity number xs (All-tail (λ y. number y ≤ 2 ^ 62) x xs h) e)
 
 -- so have the units of a row
 units_have_room : (us : List Units) → All HeldFits us → (e : ℕ) → amount_of (units_seen us) e ≤ 2 ^ 62
@@ -44,14 +47,17 @@ said_next : (rows : List ReturnRow) → HaveNext rows → (kind : TableKind) →
 said_next rows next TableNum = All-nil (λ b. b < 65535)
 said_next rows next (TableRet r) = row_blocks_keep (λ bs. All (λ b. b < 65535) bs) (All-nil (λ b. b < 65535)) rows next r
 
-this_or_later : (b : Bool) (kind : ParamKind) (later : Option ParamKind) → All (λ b. b < 65535) (return_blocks (Some kind)) → All (λ b. b < 65535) (return_blocks later) → All (λ b. b < 65535) (return_blocks (if b then Some kind else later))
+this_or_later : (b : Bool) (kind : ParamKind) (later : Option ParamKind) → All (λ b. b < 65535) (return_blocks (Some kind))
+    → All (λ b. b < 65535) (return_blocks later) → All (λ b. b < 65535) (return_blocks (if b then Some kind else later))
 this_or_later true kind later h k = h
 this_or_later false kind later h k = k
 
 -- and so does what is read for any parameter
-pub returns_have_room : (rows : List ReturnRow) → HaveNext rows → (ps : List TableParameter) (q : ℕ) → All (λ b. b < 65535) (return_blocks (entry (params_said rows ps) q))
+pub returns_have_room : (rows : List ReturnRow) → HaveNext rows → (ps : List TableParameter) (q : ℕ)
+    → All (λ b. b < 65535) (return_blocks (entry (params_said rows ps) q))
 returns_have_room rows next [] q = All-nil (λ b. b < 65535)
-returns_have_room rows next (p ∷ ps) q = this_or_later (p.number == q) (kind_said rows p.kind) (entry (params_said rows ps) q) (said_next rows next p.kind) (returns_have_room rows next ps q)
+returns_have_room rows next (p ∷ ps) q =
+    this_or_later (p.number == q) (kind_said rows p.kind) (entry (params_said rows ps) q) (said_next rows next p.kind) (returns_have_room rows next ps q)
 
 -- ROWS
 
@@ -65,7 +71,8 @@ module _ (returns : List ReturnRow) (next : HaveNext returns) where
   this_has_room (Some own) row fits is = subst HasRoom (ap (λ r. unwrap_or r (row_meaning returns own)) is) (seen_has_room returns next own fits)
 
   -- and so has the one of each block
-  pub rows_have_room : (states : List (Option TableState)) → All (λ own. IfSome own StateFits) states → (b : ℕ) (row : Row) → row_at (map (option_map (row_meaning returns)) states) b ≡ Some row → HasRoom row
+  pub rows_have_room : (states : List (Option TableState)) → All (λ own. IfSome own StateFits) states → (b : ℕ) (row : Row)
+      → row_at (map (option_map (row_meaning returns)) states) b ≡ Some row → HasRoom row
   rows_have_room states fits zero row is = absurd cc
   rows_have_room [] fits (suc b) row is = absurd cc
   rows_have_room (own ∷ states) fits (suc zero) row is = this_has_room own row (All-head (λ r. IfSome r StateFits) own states fits) is

@@ -21,7 +21,8 @@ use Rattle.gw_object.specs.declared.parts.Entity.{Entity}
 use Rattle.gw_object.specs.declared.parts.Parts.{Parts}
 use Rattle.gw_rules.specs.declared.entities.EntityKind.{EntityKind}
 use Rattle.gw_rules.specs.declared.entities.EntityKind.TheVariants.{Variable, BooleanVariable, Function}
-use Rattle.gw_operands.specs.Sources.{kind_at, operand_of, operand_at, values, evaluation_operands, if_function, if_variable, argument_in, call_in, source_of, as_operand, procedure_named, is_function_value, is_drawn}
+use Rattle.gw_operands.specs.Sources.{kind_at, operand_of, operand_at, values, evaluation_operands, if_function, if_variable, argument_in, call_in}
+use Rattle.gw_operands.specs.Sources.{source_of, as_operand, procedure_named, is_function_value, is_drawn}
 use Rattle.gw_rules.specs.Kinds.{serves_as, has_plain_argument}
 use Rattle.gw_rules.specs.KindsLaws.{TakesNoArguments, OperandHolds, EntityHolds, InstructionHolds, BlockHolds}
 use Rattle.gw_rules.proofs.EachNamed.{each_names, entities_of_values, blocks_of_values}
@@ -61,7 +62,10 @@ is_false false h = refl
 
 module _ (p : Parts) where
   -- what holds of the operand of an entity holds of that of an entity by its number
-  by_number : (needed : EntityKind) (Is : Option Operand → Type 0) → ((kind : Kind) → IsTrue (serves_as needed kind) → IfSome (operand_of kind) (OperandHolds p) → IsTrue (has_plain_argument kind) → Is (operand_of kind)) → (es : List Entity) (e : ℕ) → All (EntityHolds p) es → IsSomeAnd (kind_at es e) (λ kind. IsTrue (serves_as needed kind)) → Is (operand_at es e)
+  by_number : (needed : EntityKind) (Is : Option Operand → Type 0)
+      → ((kind : Kind) → IsTrue (serves_as needed kind) → IfSome (operand_of kind) (OperandHolds p) → IsTrue (has_plain_argument kind)
+      → Is (operand_of kind)) → (es : List Entity) (e : ℕ) → All (EntityHolds p) es
+      → IsSomeAnd (kind_at es e) (λ kind. IsTrue (serves_as needed kind)) → Is (operand_at es e)
   by_number needed Is tells [] e each is = absurd is
   by_number needed Is tells (x ∷ es) zero each is =
       let h = All-head (EntityHolds p) x es each in
@@ -72,7 +76,8 @@ module _ (p : Parts) where
   abbrev IsFunctions : Option Operand → Type 0
   IsFunctions operand = (o : Operand) × (operand ≡ Some o) × IsArgument p o
 
-  of_function : (kind : Kind) → IsTrue (serves_as Function kind) → IfSome (operand_of kind) (OperandHolds p) → IsTrue (has_plain_argument kind) → IsFunctions (operand_of kind)
+  of_function : (kind : Kind) → IsTrue (serves_as Function kind) → IfSome (operand_of kind) (OperandHolds p)
+      → IsTrue (has_plain_argument kind) → IsFunctions (operand_of kind)
   of_function (kinds.Function f) is h plain = (f.argument, refl, record { holds = h; plain = is_false (is_function_value f.argument) plain })
   of_function kind is h plain = absurd (cc)
 
@@ -80,11 +85,13 @@ module _ (p : Parts) where
   abbrev IsVariables : Option Operand → Type 0
   IsVariables operand = (q : ℕ) × (operand ≡ Some (operands.Procedure q)) × OperandHolds p (operands.Procedure q)
 
-  of_variable : (kind : Kind) → IsTrue (serves_as Variable kind) → IfSome (operand_of kind) (OperandHolds p) → IsTrue (has_plain_argument kind) → IsVariables (operand_of kind)
+  of_variable : (kind : Kind) → IsTrue (serves_as Variable kind) → IfSome (operand_of kind) (OperandHolds p)
+      → IsTrue (has_plain_argument kind) → IsVariables (operand_of kind)
   of_variable (kinds.Variable q) is h plain = (q, refl, h)
   of_variable kind is h plain = absurd (cc)
 
-  of_boolean_variable : (kind : Kind) → IsTrue (serves_as BooleanVariable kind) → IfSome (operand_of kind) (OperandHolds p) → IsTrue (has_plain_argument kind) → IsVariables (operand_of kind)
+  of_boolean_variable : (kind : Kind) → IsTrue (serves_as BooleanVariable kind) → IfSome (operand_of kind) (OperandHolds p)
+      → IsTrue (has_plain_argument kind) → IsVariables (operand_of kind)
   of_boolean_variable (kinds.BooleanVariable q) is h plain = (q, refl, h)
   of_boolean_variable kind is h plain = absurd (cc)
 
@@ -113,7 +120,8 @@ read_holds p locals (OfEntity a) h = record { entity = h.entity; called = tt; bl
 -- SOURCES
 
 module _ (p : Parts) (each : All (EntityHolds p) p.entities) where
-  of_attribute : (attribute : EntityAttribute) (n : ℕ) → OperandHolds p (of_entity attribute n) → IsArgument p (if_function attribute (unwrap_or (operand_at p.entities n) (of_entity attribute n)) (of_entity attribute n))
+  of_attribute : (attribute : EntityAttribute) (n : ℕ) → OperandHolds p (of_entity attribute n)
+      → IsArgument p (if_function attribute (unwrap_or (operand_at p.entities n) (of_entity attribute n)) (of_entity attribute n))
   of_attribute FunctionValue n h =
       let one = by_number p Function (IsFunctions p) (of_function p) p.entities n each h.entity in
       subst (λ o. IsArgument p (unwrap_or o (of_entity FunctionValue n))) (sym one.1) one.2
@@ -124,11 +132,13 @@ module _ (p : Parts) (each : All (EntityHolds p) p.entities) where
   argument_of o h = record { holds = h; plain = refl }
 
   -- a call in place of a variable's value
-  called : (attribute : EntityAttribute) (n : ℕ) → IsVariables p (operand_at p.entities n) → IsSource p (of_entity attribute n) (unwrap_or (operand_at p.entities n) (of_entity attribute n))
+  called : (attribute : EntityAttribute) (n : ℕ) → IsVariables p (operand_at p.entities n)
+      → IsSource p (of_entity attribute n) (unwrap_or (operand_at p.entities n) (of_entity attribute n))
   called attribute n one =
       subst (λ o. IsSource p (of_entity attribute n) (unwrap_or o (of_entity attribute n))) (sym one.1) (record { holds = one.2; kept = refl; drawn = refl })
 
-  of_plain : (attribute : EntityAttribute) (n : ℕ) → OperandHolds p (of_entity attribute n) → is_function_value (of_entity attribute n) ≡ false → IsSource p (of_entity attribute n) (if_variable attribute (unwrap_or (operand_at p.entities n) (of_entity attribute n)) (of_entity attribute n))
+  of_plain : (attribute : EntityAttribute) (n : ℕ) → OperandHolds p (of_entity attribute n) → is_function_value (of_entity attribute n)
+      ≡ false → IsSource p (of_entity attribute n) (if_variable attribute (unwrap_or (operand_at p.entities n) (of_entity attribute n)) (of_entity attribute n))
   of_plain VariableValue n h plain = called VariableValue n (by_number p Variable (IsVariables p) (of_variable p) p.entities n each h.entity)
   of_plain BooleanValue n h plain = called BooleanValue n (by_number p BooleanVariable (IsVariables p) (of_boolean_variable p) p.entities n each h.entity)
   of_plain FunctionValue n h plain = absurd (cc)
@@ -158,7 +168,8 @@ module _ (p : Parts) (each : All (EntityHolds p) p.entities) where
   source_is_kept o h a is = sym (ap stands_for_another is) ∙ (is_source o h).kept
 
   -- the procedure that a source calls is there, and takes no arguments
-  pub source_takes_none : (o : Operand) → OperandHolds p o → (q : ℕ) → procedure_named (source_of p.entities o) ≡ Some q → (pr : Procedure) × (slice_get p.procedures q ≡ Some pr) × (pr.arguments ≡ 0)
+  pub source_takes_none : (o : Operand) → OperandHolds p o → (q : ℕ) → procedure_named (source_of p.entities o) ≡ Some q → (pr : Procedure)
+      × (slice_get p.procedures q ≡ Some pr) × (pr.arguments ≡ 0)
   source_takes_none o h q is = from_some (slice_get p.procedures q) (subst (λ o. IfSome o (TakesNoArguments p)) is (source_holds o h).called)
     where
       from_some : (o : Option Procedure) → IsSomeAnd o (λ (pr : Procedure). pr.arguments ≡ 0) → (pr : Procedure) × (o ≡ Some pr) × (pr.arguments ≡ 0)

@@ -1,5 +1,6 @@
 -- Weights pass exactly where an object is weighted.
-use Rattle.std.proofs.Common.{◌≡◌, ◌↔◌, ℕ, zero, suc, ◌+◌, ◌≤◌, ◌<◌, List, [], ◌∷◌, Option, Some, None, Bool, true, false, if◌then◌else◌, refl, sym, ap, subst, arith, cond, take, ◌∙◌}
+use Rattle.std.proofs.Common.{◌≡◌, ◌↔◌, ℕ, zero, suc, ◌+◌, ◌≤◌, ◌<◌, List, [], ◌∷◌, Option, Some, None, Bool, true, false, if◌then◌else◌, refl, sym}
+use Rattle.std.proofs.Common.{ap, subst, arith, cond, take, ◌∙◌}
 use Rattle.std.specs.Prelude.{All, IsTrue, IfSome, nat_le, length, is_none, is_some, IsSome, ◌==◌, ◌&&◌, ◌*◌, ◌++◌}
 use Rattle.std.specs.List.{flat_map}
 use Rattle.std.specs.Option.{option_map_or}
@@ -35,7 +36,9 @@ use Rattle.gw_rules.proofs.EachBlock.{numbered_holds, all_numbered_hold}
 use Rattle.gw_rules.specs.WeightsCodes as codes
 use Rattle.gw_rules.specs.declared.slopes.Treatment.{Treatment}
 use Rattle.gw_rules.specs.declared.slopes.Treatment.TheVariants.{Keeps, SetsTo, Lowers, RunsOut, Changes}
-use Rattle.gw_rules.specs.Weights.{weight_at, chain_weight, slope_at, per_of, treats, covers, pays_slope, pays_to, is_on, pays_copies, pays_way, is_number, slope_checks, goes_at_once, is_bounded, arrival_checks, chain_checks, exit_checks, row_checks, checks_at, weight_checks, WeightsPass}
+use Rattle.gw_rules.specs.Weights.{weight_at, chain_weight, slope_at, per_of, treats, covers, pays_slope, pays_to, is_on, pays_copies, pays_way}
+use Rattle.gw_rules.specs.Weights.{is_number, slope_checks, goes_at_once, is_bounded, arrival_checks, chain_checks, exit_checks, row_checks}
+use Rattle.gw_rules.specs.Weights.{checks_at, weight_checks, WeightsPass}
 use Rattle.gw_rules.specs.WeightsLaws.{Covers, PaysSlope, PaysTo, IsOn, PaysCopies, PaysWay, PaysExit, PaysChain, Pays, Weighted, WeightsPassWhereWeighted}
 
 -- CHECKS
@@ -92,13 +95,16 @@ decide_number (Some Num) = (λ h. refl, λ h. refl)
 decide_number (Some (Ret bs)) = (λ h. absurd (false≢true h), λ h. absurd cc)
 
 -- one check that is made in a case alone
-decided_if : (made holds : Bool) (P : Type 0) (fault : Fault) → ((holds ≡ true) ↔ P) → Hold (if made then record { holds = holds; fault = fault } ∷ [] else []) ↔ (IsTrue made → P)
+decided_if : (made holds : Bool) (P : Type 0) (fault : Fault) → ((holds ≡ true) ↔ P)
+    → Hold (if made then record { holds = holds; fault = fault } ∷ [] else []) ↔ (IsTrue made → P)
 decided_if true holds P fault decides = (λ h _. decides.0 (first_and_others _ _ _ h).0, λ h. first_with_others _ _ _ (decides.1 (h refl)) refl)
 decided_if false holds P fault decides = (λ h made. absurd (cc), λ h. refl)
 
 -- one check, and others
-decided_with : (holds : Bool) (P Q : Type 0) (fault : Fault) (others : List Check) → ((holds ≡ true) ↔ P) → (Hold others ↔ Q) → Hold (record { holds = holds; fault = fault } ∷ others) ↔ (P × Q)
-decided_with holds P Q fault others decides rest = (λ h. let two = first_and_others _ _ _ h in (decides.0 two.0, rest.0 two.1), λ h. first_with_others _ _ _ (decides.1 h.0) (rest.1 h.1))
+decided_with : (holds : Bool) (P Q : Type 0) (fault : Fault) (others : List Check) → ((holds ≡ true) ↔ P) → (Hold others ↔ Q)
+    → Hold (record { holds = holds; fault = fault } ∷ others) ↔ (P × Q)
+decided_with holds P Q fault others decides rest =
+    (λ h. let two = first_and_others _ _ _ h in (decides.0 two.0, rest.0 two.1), λ h. first_with_others _ _ _ (decides.1 h.0) (rest.1 h.1))
 
 -- USER CHAINS
 
@@ -119,14 +125,16 @@ place_is_there (e ∷ es) (suc c) is =
 -- BLOCKS
 
 module _ (p : Parts) where
-  decide_slope : (b there : ℕ) (slope : ℕ × ℕ) (treatment : Treatment) → (pays_slope (weight_at p.weights b) (slope_at p.slopes b) there slope treatment ≡ true) ↔ PaysSlope p b there slope treatment
+  decide_slope : (b there : ℕ) (slope : ℕ × ℕ) (treatment : Treatment)
+      → (pays_slope (weight_at p.weights b) (slope_at p.slopes b) there slope treatment ≡ true) ↔ PaysSlope p b there slope treatment
   decide_slope b there slope Keeps = decide_both _ _ _ _ (decide_at_most _ _) (decide_covers (slope_at p.slopes b) slope)
   decide_slope b there slope (SetsTo value) = decide_at_most _ _
   decide_slope b there slope Lowers = decide_both _ _ _ _ (decide_at_most _ _) (decide_covers (slope_at p.slopes b) slope)
   decide_slope b there slope RunsOut = decide_at_most _ _
   decide_slope b there slope Changes = (λ h. absurd (false≢true h), λ h. absurd h)
 
-  decide_to : (b there : ℕ) (block : Block) (way : Way) (slope : Option (ℕ × ℕ)) → (pays_to (weight_at p.weights b) (slope_at p.slopes b) there block way slope ≡ true) ↔ PaysTo p b block way there slope
+  decide_to : (b there : ℕ) (block : Block) (way : Way) (slope : Option (ℕ × ℕ))
+      → (pays_to (weight_at p.weights b) (slope_at p.slopes b) there block way slope ≡ true) ↔ PaysTo p b block way there slope
   decide_to b there block way None = decide_at_most _ _
   decide_to b there block way (Some slope) = decide_slope b there slope (treats block way slope.0)
 
@@ -134,8 +142,11 @@ module _ (p : Parts) where
   decide_copies b copies target =
       let base = decide_at_most (1 + weight_at p.weights (b + 1) + copies * weight_at p.weights target) (weight_at p.weights b) in
       let steep = decide_at_most (per_of (slope_at p.slopes (b + 1)) + copies * per_of (slope_at p.slopes target)) (per_of (slope_at p.slopes b)) in
-      let all = decide_both _ _ _ _ (decide_both _ _ _ _ base (decide_on (slope_at p.slopes b) (slope_at p.slopes (b + 1)))) (decide_both _ _ _ _ (decide_on (slope_at p.slopes b) (slope_at p.slopes target)) steep) in
-      (λ h. let four = all.0 h in record { base = four.0.0; fall_on = four.0.1; target_on = four.1.0; steep = four.1.1 }, λ h. all.1 ((h.base, h.fall_on), (h.target_on, h.steep)))
+      let all = decide_both _ _ _ _ (decide_both _ _ _ _ base (decide_on (slope_at p.slopes b) (slope_at p.slopes (b + 1))))
+      (decide_both _ _ _ _ (decide_on (slope_at p.slopes b) (slope_at p.slopes target)) steep) in (
+        λ h. let four = all.0 h in record { base = four.0.0; fall_on = four.0.1; target_on = four.1.0; steep = four.1.1 },
+        λ h. all.1 ((h.base, h.fall_on), (h.target_on, h.steep)),
+      )
 
   decide_way : (b : ℕ) (block : Block) (way : Way) (who : Who) → (pays_way p b block way who ≡ true) ↔ PaysWay p b block way who
   decide_way b block way Itself = decide_to b (weight_at p.weights (leads_to b way)) block way (slope_at p.slopes (leads_to b way))
@@ -147,16 +158,25 @@ module _ (p : Parts) where
   slope_known : (b : ℕ) (row : Row) → Hold (slope_checks p b (Some row)) ↔ IfSome (slope_at p.slopes b) (λ slope. kind_of row slope.0 ≡ Some Num)
   slope_known b row = by_slope (slope_at p.slopes b)
     where
-      by_slope : (o : Option (ℕ × ℕ)) → Hold (option_map_or (λ (slope : ℕ × ℕ). check codes.slope_param (places.Block b) (is_number (kind_of row slope.0)) ∷ []) o []) ↔ IfSome o (λ slope. kind_of row slope.0 ≡ Some Num)
+      by_slope : (o : Option (ℕ × ℕ))
+          → Hold (option_map_or (λ (slope : ℕ × ℕ). check codes.slope_param (places.Block b) (is_number (kind_of row slope.0)) ∷ []) o [])
+          ↔ IfSome o (λ slope. kind_of row slope.0 ≡ Some Num)
       by_slope None = (λ h. tt, λ h. refl)
-      by_slope (Some slope) = (λ h. (decide_number (kind_of row slope.0)).0 (first_and_others _ _ _ h).0, λ h. first_with_others _ _ _ ((decide_number (kind_of row slope.0)).1 h) refl)
+      by_slope (Some slope) = (
+        λ h. (decide_number (kind_of row slope.0)).0 (first_and_others _ _ _ h).0,
+        λ h. first_with_others _ _ _ ((decide_number (kind_of row slope.0)).1 h) refl,
+      )
 
   chain_paid : (b : ℕ) (block : Block) → Hold (chain_checks p b block) ↔ PaysChain p b block
   chain_paid b (blocks.Link l) = at_most _ _ _
   chain_paid b (blocks.Unlink u) =
-      let others : List Check = if is_some (own_table p (targets.Chain u.chain)) then check codes.chain_weight (places.Block b) (nat_le (weight_at p.weights u.target) (chain_weight p u.chain)) ∷ [] else [] in
-      let lets = at_most_if (is_some (own_table p (targets.Chain u.chain))) (weight_at p.weights u.target) (chain_weight p u.chain) (check codes.chain_weight (places.Block b) true).fault in
-      decided_with (is_none (slope_at p.slopes u.target)) (slope_at p.slopes u.target ≡ None) (IsSome (own_table p (targets.Chain u.chain)) → weight_at p.weights u.target ≤ chain_weight p u.chain) (check codes.chain_weight (places.Block b) true).fault others (decide_none (slope_at p.slopes u.target)) lets
+      let others : List Check = if is_some (own_table p (targets.Chain u.chain)) then
+      check codes.chain_weight (places.Block b) (nat_le (weight_at p.weights u.target) (chain_weight p u.chain)) ∷ [] else [] in
+      let lets = at_most_if (is_some (own_table p (targets.Chain u.chain))) (weight_at p.weights u.target) (chain_weight p u.chain)
+      (check codes.chain_weight (places.Block b) true).fault in
+      decided_with (is_none (slope_at p.slopes u.target)) (slope_at p.slopes u.target ≡ None)
+      (IsSome (own_table p (targets.Chain u.chain)) → weight_at p.weights u.target ≤ chain_weight p u.chain)
+      (check codes.chain_weight (places.Block b) true).fault others (decide_none (slope_at p.slopes u.target)) lets
   chain_paid b block = (λ h. tt, λ h. refl)
 
   bounded : (b : ℕ) (g : Generate) → Hold (arrival_checks b (blocks.Generate g)) → IsTrue (is_bounded g)
@@ -188,10 +208,12 @@ module _ (p : Parts) where
   slopes_hold b block (Some row) paid = (slope_known b row).1 (paid row refl).slope
 
   -- what holds at a block: what its slope needs, what its arrivals need, and what it needs in its row
-  at_block : WeightsPass p → (b : ℕ) (block : Block) → block_at p.blocks b ≡ Some block → Hold (slope_checks p b (own_row p b)) × Hold (arrival_checks b block) × Hold (row_checks p b block (own_row p b))
+  at_block : WeightsPass p → (b : ℕ) (block : Block) → block_at p.blocks b ≡ Some block → Hold (slope_checks p b (own_row p b))
+      × Hold (arrival_checks b block) × Hold (row_checks p b block (own_row p b))
   unfolding weight_checks
   at_block h b block is =
-      let two = parts_hold (slope_checks p b (own_row p b)) (arrival_checks b block ++ row_checks p b block (own_row p b)) (numbered_holds (checks_at p) p.blocks b block h is) in
+      let two = parts_hold (slope_checks p b (own_row p b)) (arrival_checks b block ++ row_checks p b block (own_row p b))
+      (numbered_holds (checks_at p) p.blocks b block h is) in
       let rest = parts_hold (arrival_checks b block) (row_checks p b block (own_row p b)) two.1 in
       (two.0, rest.0, rest.1)
 
@@ -205,7 +227,8 @@ module _ (p : Parts) where
   -- so has each user chain
   chain_weighs : HasSpelling p → (c : ℕ) → kind_at p.entities c ≡ Some Chain → 1 ≤ chain_weight p c
   chain_weighs fits c is =
-      let within : chain_place p.entities c < length p.chain_weights = subst (λ n. chain_place p.entities c < n) (sym fits.limits.chain_weights) (place_is_there p.entities c is) in
+      let within : chain_place p.entities c < length p.chain_weights =
+      subst (λ n. chain_place p.entities c < n) (sym fits.limits.chain_weights) (place_is_there p.entities c is) in
       (fits.limits.each_chain_weight (chain_place p.entities c) 0 within).0
 
   weighted : HasSpelling p → WeightsPass p → Weighted p
@@ -213,7 +236,8 @@ module _ (p : Parts) where
     least = weighs fits;
     chains = chain_weighs fits;
     arrivals = λ b g is. bounded b g (at_block h b (blocks.Generate g) is).1;
-    each_row = λ b block row is has. pays b block row (subst (λ r. Hold (slope_checks p b r)) has (at_block h b block is).0) (subst (λ r. Hold (row_checks p b block r)) has (at_block h b block is).2);
+    each_row = λ b block row is has. pays b block row (subst (λ r. Hold (slope_checks p b r)) has (at_block h b block is).0)
+        (subst (λ r. Hold (row_checks p b block r)) has (at_block h b block is).2);
   }
 
   pass : Weighted p → WeightsPass p

@@ -13,7 +13,8 @@ use Rattle.gw_operands.specs.declared.ends.PlusEnd.{PlusEnd}
 use Rattle.gw_operands.specs.Environment.{Environment, ReadTheSame}
 use Rattle.gw_operands.specs.Code.{procedure_at, costs_of}
 use Rattle.gw_operands.specs.Results.{value_by_operand}
-use Rattle.gw_operands.specs.Meaning.{Frame, Next, Goes, Calls, Returns, Ends, Stuck, on, push_value, or_stuck, reads_source, act, next, opening_frame, Derives, returns, ends, goes, call_ends, call_gives}
+use Rattle.gw_operands.specs.Meaning.{Frame, Next, Goes, Calls, Returns, Ends, Stuck, on, push_value, or_stuck, reads_source, act, next}
+use Rattle.gw_operands.specs.Meaning.{opening_frame, Derives, returns, ends, goes, call_ends, call_gives}
 use Rattle.gw_operands.specs.Outcome.{Answer, if_going, once_called, answer_by, answer_within, outcome_of}
 use Rattle.gw_rules.specs.PlusLaws.{AnswersAreDerived, DerivedIsAnswered, OutcomesDependOnWhatIsKept}
 
@@ -23,7 +24,8 @@ use Rattle.gw_rules.specs.PlusLaws.{AnswersAreDerived, DerivedIsAnswered, Outcom
 abbrev IsDerived : Parts → Environment → ℕ → Frame → Result ℤ PlusEnd → Type 0
 IsDerived p env n f r = (k : ℕ) × Derives p env n f k r
 
-module _ (p : Parts) (env : Environment) (onward : ℕ → Frame → Answer) (derived : (n : ℕ) (f : Frame) (r : Result ℤ PlusEnd) → onward n f ≡ Some r → IsDerived p env n f r) where
+module _ (p : Parts) (env : Environment) (onward : ℕ → Frame → Answer)
+    (derived : (n : ℕ) (f : Frame) (r : Result ℤ PlusEnd) → onward n f ≡ Some r → IsDerived p env n f r) where
   pushed_is_derived : (n : ℕ) (x : Next) (r : Result ℤ PlusEnd) → if_going (onward n) x ≡ Some r → (h : Frame) × (x ≡ Goes h) × IsDerived p env n h r
   pushed_is_derived n (Goes h) r is = (h, refl, derived n h r is)
   pushed_is_derived n (Calls q arguments finish rest) r is = absurd (cc)
@@ -31,7 +33,9 @@ module _ (p : Parts) (env : Environment) (onward : ℕ → Frame → Answer) (de
   pushed_is_derived n (Ends e) r is = absurd (cc)
   pushed_is_derived n Stuck r is = absurd (cc)
 
-  call_is_derived : (n q : ℕ) (f g : Frame) (arguments : List ℤ) (finish : ℤ → ℤ) (r : Result ℤ PlusEnd) (called : Answer) → next p env n f ≡ Calls q arguments finish g → onward q (opening_frame (procedure_at p q) arguments) ≡ called → option_and_then (once_called (onward n) finish g) called ≡ Some r → IsDerived p env n f r
+  call_is_derived : (n q : ℕ) (f g : Frame) (arguments : List ℤ) (finish : ℤ → ℤ) (r : Result ℤ PlusEnd) (called : Answer) → next p env n f
+      ≡ Calls q arguments finish g → onward q (opening_frame (procedure_at p q) arguments) ≡ called
+      → option_and_then (once_called (onward n) finish g) called ≡ Some r → IsDerived p env n f r
   call_is_derived n q f g arguments finish r None next_is called_is is = absurd (cc)
   call_is_derived n q f g arguments finish r (Some (Err e)) next_is called_is is =
       let call = derived q (opening_frame (procedure_at p q) arguments) (Err e) called_is in
@@ -44,7 +48,8 @@ module _ (p : Parts) (env : Environment) (onward : ℕ → Frame → Answer) (de
 
   next_is_derived : (n : ℕ) (f : Frame) (x : Next) (r : Result ℤ PlusEnd) → next p env n f ≡ x → answer_by p onward n x ≡ Some r → IsDerived p env n f r
   next_is_derived n f (Goes g) r next_is is = let rest = derived n g r is in (suc rest.0, goes next_is rest.1)
-  next_is_derived n f (Calls q arguments finish g) r next_is is = call_is_derived n q f g arguments finish r (onward q (opening_frame (procedure_at p q) arguments)) next_is refl is
+  next_is_derived n f (Calls q arguments finish g) r next_is is =
+      call_is_derived n q f g arguments finish r (onward q (opening_frame (procedure_at p q) arguments)) next_is refl is
   next_is_derived n f (Returns v) r next_is is = let same : Ok v ≡ r = cc in (1, subst (Derives p env n f 1) same (returns next_is))
   next_is_derived n f (Ends e) r next_is is = let same : Err e ≡ r = cc in (1, subst (Derives p env n f 1) same (ends next_is))
   next_is_derived n f Stuck r next_is is = absurd (cc)
@@ -70,11 +75,14 @@ derived_is_answered p env (suc most) n f k r (goes {g = g} {k = j} is d) le =
 derived_is_answered p env (suc most) n f k r (call_ends {q = q} {g = g} {arguments = arguments} {finish = finish} {m = m} {e = e} is d) le =
     let onward = answer_within p env most in
     ap (answer_by p onward n) is
-    ∙ ap (option_and_then (once_called (onward n) finish g)) (derived_is_answered p env most q (opening_frame (procedure_at p q) arguments) m (Err e) d (omega arith))
-derived_is_answered p env (suc most) n f k r (call_gives {q = q} {g = g} {h = h} {arguments = arguments} {finish = finish} {m = m} {k = j} {v = v} is d push c) le =
+    ∙ ap (option_and_then (once_called (onward n) finish g))
+    (derived_is_answered p env most q (opening_frame (procedure_at p q) arguments) m (Err e) d (omega arith))
+derived_is_answered p env (suc most) n f k r
+    (call_gives {q = q} {g = g} {h = h} {arguments = arguments} {finish = finish} {m = m} {k = j} {v = v} is d push c) le =
     let onward = answer_within p env most in
     ap (answer_by p onward n) is
-    ∙ ap (option_and_then (once_called (onward n) finish g)) (derived_is_answered p env most q (opening_frame (procedure_at p q) arguments) m (Ok v) d (omega arith))
+    ∙ ap (option_and_then (once_called (onward n) finish g))
+    (derived_is_answered p env most q (opening_frame (procedure_at p q) arguments) m (Ok v) d (omega arith))
     ∙ ap (if_going (onward n)) push
     ∙ derived_is_answered p env most n h j r c (omega arith)
 
@@ -120,12 +128,14 @@ module _ (p : Parts) (a b : Environment) (same : ReadTheSame a b) where
   going_same onward others alike (Ends e) = refl
   going_same onward others alike Stuck = refl
 
-  called_same : (onward others : Frame → Answer) → ((f : Frame) → onward f ≡ others f) → (finish : ℤ → ℤ) (rest : Frame) (called : Answer) → option_and_then (once_called onward finish rest) called ≡ option_and_then (once_called others finish rest) called
+  called_same : (onward others : Frame → Answer) → ((f : Frame) → onward f ≡ others f) → (finish : ℤ → ℤ) (rest : Frame) (called : Answer)
+      → option_and_then (once_called onward finish rest) called ≡ option_and_then (once_called others finish rest) called
   called_same onward others alike finish rest None = refl
   called_same onward others alike finish rest (Some (Err e)) = refl
   called_same onward others alike finish rest (Some (Ok v)) = going_same onward others alike (push_value (finish v) rest)
 
-  by_same : (onward others : ℕ → Frame → Answer) → ((n : ℕ) (f : Frame) → onward n f ≡ others n f) → (n : ℕ) (x : Next) → answer_by p onward n x ≡ answer_by p others n x
+  by_same : (onward others : ℕ → Frame → Answer) → ((n : ℕ) (f : Frame) → onward n f ≡ others n f) → (n : ℕ) (x : Next)
+      → answer_by p onward n x ≡ answer_by p others n x
   by_same onward others alike n (Goes f) = alike n f
   by_same onward others alike n (Calls q arguments finish rest) =
       ap (option_and_then (once_called (onward n) finish rest)) (alike q (opening_frame (procedure_at p q) arguments))

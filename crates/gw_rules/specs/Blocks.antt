@@ -25,7 +25,8 @@ use Rattle.gw_rules.specs.declared.set_parameters.Parameter.{Parameter}
 use Rattle.gw_rules.specs.FlowCodes as codes
 use Rattle.gw_rules.specs.Entries.{in_order}
 use Rattle.gw_rules.specs.Seen.{kind_seen}
-use Rattle.gw_rules.specs.Rows.{Row, kind_of, is_number, is_return, return_blocks, owns, units_of, is_empty, nothing_known, with_parameter, with_facility, without_facility, with_units, parameters_alone}
+use Rattle.gw_rules.specs.Rows.{Row, kind_of, is_number, is_return, return_blocks, owns, units_of, is_empty, nothing_known, with_parameter}
+use Rattle.gw_rules.specs.Rows.{with_facility, without_facility, with_units, parameters_alone}
 
 -- a state table: what is known of a transaction that is about to go to a target, if it says that one may go there
 abbrev pub Table : Type 0

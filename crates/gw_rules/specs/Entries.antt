@@ -1,5 +1,6 @@
 -- Lists of numbers, and of entries by number. They ascend; what is read of them by number doesn't depend on it.
-use Rattle.std.specs.Prelude.{ℕ, List, [], ◌∷◌, ◌++◌, Option, Some, None, Bool, not, ◌&&◌, if◌then◌else◌, ◌==◌, nat_lt, filter, option_to_list, option_map, unwrap_or}
+use Rattle.std.specs.Prelude.{ℕ, List, [], ◌∷◌, ◌++◌, Option, Some, None, Bool, not, ◌&&◌, if◌then◌else◌, ◌==◌, nat_lt, filter, option_to_list}
+use Rattle.std.specs.Prelude.{option_map, unwrap_or}
 use Rattle.std.specs.List.{fold, list_all, list_any}
 pub use Rattle.gw_object.specs.Returns.{lists}
 

@@ -22,7 +22,8 @@ at_once way = record { way = way; passes_time = false; who = Itself }
 abbrev pub for_copies : ℕ → Way → Exit
 for_copies copies way = record { way = way; passes_time = false; who = Copies copies }
 
--- whether the least time that may be drawn is known to be 1 or more, with this mean and half the range: both are constants, half the range is 0 or more, and the mean is above it
+-- whether the least time that may be drawn is known to be 1 or more, with this mean and half the range: both are
+-- constants, half the range is 0 or more, and the mean is above it
 abbrev pub takes_time : Operand → Operand → Bool
 takes_time (Constant mean) (Constant half) = int_le (pos 0) half && int_lt half mean
 takes_time mean half = false
@@ -37,7 +38,8 @@ abbrev pub falls_or_goes : Option ℕ → List Exit
 falls_or_goes None = at_once Falls ∷ []
 falls_or_goes (Some target) = at_once Falls ∷ at_once (Goes target) ∷ []
 
--- the exits of a block, in order; most blocks fall to the next one at once. A TRANSFER in parameter mode has those of the returns that its parameter may hold, and a LINK leads to no block
+-- the exits of a block, in order; most blocks fall to the next one at once. A TRANSFER in parameter mode has those of
+-- the returns that its parameter may hold, and a LINK leads to no block
 abbrev pub exits : Block → List Exit
 exits (blocks.Terminate by) = []
 exits (blocks.Advance time) = record { way = Falls; passes_time = takes_time time.mean time.half; who = Itself } ∷ []

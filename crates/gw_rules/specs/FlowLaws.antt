@@ -9,7 +9,8 @@ use Rattle.gw_rules.specs.Rows.{Row, fits, Fits}
 use Rattle.gw_rules.specs.Blocks.{Table, replaces, rules, edges}
 use Rattle.gw_rules.specs.Flow.{FlowPasses}
 
--- a transaction in this state may enter the block of number b and go on from it: each rule holds, and where each edge leads the table has a row that the edge's state fits
+-- a transaction in this state may enter the block of number b and go on from it: each rule holds, and where each edge
+-- leads the table has a row that the edge's state fits
 pub record MayPass (p : Parts) (table : Table) (b : ℕ) (block : Block) (state : Row) : Type 0 where
   pub each_rule : All (λ rule. rule.holds ≡ true) (rules p block state)
   pub each_edge : All (λ edge. IsSomeAnd (table edge.target) (Fits edge.state)) (edges p table b block state)
@@ -35,7 +36,8 @@ FitsItself = (state : Row) → Fits state state
 abbrev pub FitsOn : Type 0
 FitsOn = (state row other : Row) → Fits state row → Fits row other → Fits state other
 
--- whether a block forbids what a state may know and a row that it fits may not: GENERATE that anything is set or held, and ASSIGN by addition or subtraction that its parameter is a return
+-- whether a block forbids what a state may know and a row that it fits may not: GENERATE that anything is set or held,
+-- and ASSIGN by addition or subtraction that its parameter is a return
 abbrev pub forbids : Block → Bool
 forbids (blocks.Generate g) = true
 forbids (blocks.Assign a) = not (replaces a.mode)

@@ -1,5 +1,6 @@
 -- Kinds: what every number in an object names.
-use Rattle.std.specs.Prelude.{ℕ, zero, suc, ◌+◌, ◌^◌, pos, List, [], ◌∷◌, ◌++◌, length, map, filter_map, take, Option, Some, None, is_some, Bool, true, false, if◌then◌else◌, not, ◌&&◌, nat_lt, nat_le, ◌==◌, int_le, slice_get}
+use Rattle.std.specs.Prelude.{ℕ, zero, suc, ◌+◌, ◌^◌, pos, List, [], ◌∷◌, ◌++◌, length, map, filter_map, take, Option, Some, None, is_some, Bool}
+use Rattle.std.specs.Prelude.{true, false, if◌then◌else◌, not, ◌&&◌, nat_lt, nat_le, ◌==◌, int_le, slice_get}
 use Rattle.std.specs.Option.{option_map, option_map_or, option_flatten}
 use Rattle.std.specs.List.{list_all, cons_option}
 use Rattle.gw_object.specs.declared.fault.Place.{Place}
@@ -8,7 +9,9 @@ use Rattle.gw_object.specs.declared.parts.Kind.{Kind}
 use Rattle.gw_object.specs.declared.parts.Kind.TheVariants as kinds
 use Rattle.gw_object.specs.declared.parts.Entity.{Entity}
 use Rattle.gw_blocks.specs.declared.parts.EntityAttribute.{EntityAttribute}
-use Rattle.gw_blocks.specs.declared.parts.EntityAttribute.TheVariants.{FacilityOwned, StorageContent, StorageRemaining, QueueContent, SavevalueValue, SwitchSetting, ChainMembers, VariableValue, BooleanValue, FunctionValue, BlockEntries, BlockCount}
+use Rattle.gw_blocks.specs.declared.parts.EntityAttribute.TheVariants.{FacilityOwned, StorageContent, StorageRemaining, QueueContent, SavevalueValue}
+use Rattle.gw_blocks.specs.declared.parts.EntityAttribute.TheVariants.{SwitchSetting, ChainMembers, VariableValue, BooleanValue, FunctionValue}
+use Rattle.gw_blocks.specs.declared.parts.EntityAttribute.TheVariants.{BlockEntries, BlockCount}
 use Rattle.gw_blocks.specs.declared.parts.Numbered.{Numbered}
 use Rattle.gw_blocks.specs.declared.parts.Operand.{Operand}
 use Rattle.gw_blocks.specs.declared.parts.Operand.TheVariants.{OfEntity}
@@ -25,7 +28,8 @@ use Rattle.gw_object.specs.declared.parts.ReturnRow.{ReturnRow}
 use Rattle.gw_object.specs.declared.parts.Parts.{Parts}
 use Rattle.gw_object.specs.Entities.{is_chain, chains_in}
 use Rattle.gw_rules.specs.declared.entities.EntityKind.{EntityKind}
-use Rattle.gw_rules.specs.declared.entities.EntityKind.TheVariants.{Facility, Storage, Queue, Switch, Savevalue, Table, Chain, Variable, BooleanVariable, Function, StorageOrQueue}
+use Rattle.gw_rules.specs.declared.entities.EntityKind.TheVariants.{Facility, Storage, Queue, Switch, Savevalue, Table, Chain, Variable}
+use Rattle.gw_rules.specs.declared.entities.EntityKind.TheVariants.{BooleanVariable, Function, StorageOrQueue}
 use Rattle.gw_rules.specs.declared.entities.Named.{Named}
 use Rattle.gw_rules.specs.declared.ways.Way.{Way}
 use Rattle.gw_rules.specs.declared.ways.Way.TheVariants.{Falls, Goes}
@@ -269,7 +273,8 @@ has_plain_half block = true
 abbrev pub are_units : ℕ → Bool
 are_units n = nat_le 1 n && nat_le n (2 ^ 20)
 
--- a first arrival isn't before clock 0, a limit of arrivals isn't 0, units are within their range, a fraction is at most the whole, an assembly set isn't empty, and a limit of those who are taken from a user chain isn't 0
+-- a first arrival isn't before clock 0, a limit of arrivals isn't 0, units are within their range, a fraction is at
+-- most the whole, an assembly set isn't empty, and a limit of those who are taken from a user chain isn't 0
 abbrev pub has_good_constants : Block → Bool
 has_good_constants (blocks.Generate g) = is_none_or g.first (int_le (pos 0)) && is_none_or g.limit (nat_lt 0)
 has_good_constants (blocks.Enter u) = are_units u.number
@@ -283,7 +288,9 @@ has_good_constants block = true
 
 -- THE CHECKS
 
--- of the entity of number e, by the operand that is evaluated for it: that names an entity of the right kind, calls no procedure with arguments, and is no function's value where it is a function's argument (10); the entity and the procedure are there (11), and so is the block (12)
+-- of the entity of number e, by the operand that is evaluated for it: that names an entity of the right kind, calls no
+-- procedure with arguments, and is no function's value where it is a function's argument (10); the entity and the
+-- procedure are there (11), and so is the block (12)
 abbrev pub entity_checks : Parts → ℕ → Entity → List Check
 entity_checks p e entity =
     check codes.wrong_kind (places.Entity e) (is_none_or (operand_of entity.kind) (names_well p) && has_plain_argument entity.kind)
@@ -333,10 +340,12 @@ exit_checks bs b block =
 abbrev pub constant_checks : ℕ → Block → List Check
 constant_checks b block = check codes.bad_constant (places.Block b) (has_good_constants block) ∷ []
 
--- the block of number b names entities of the right kinds, calls no procedure with arguments, and has no function's value as half the range of a time (10); the entities and procedures are there (11)
+-- the block of number b names entities of the right kinds, calls no procedure with arguments, and has no function's
+-- value as half the range of a time (10); the entities and procedures are there (11)
 abbrev pub naming_checks : Parts → ℕ → Block → List Check
 naming_checks p b block =
-    check codes.wrong_kind (places.Block b) (names_no_other_kind p.entities (named_entities block) && calls_without_arguments p.procedures block && has_plain_half block)
+    check codes.wrong_kind (places.Block b)
+    (names_no_other_kind p.entities (named_entities block) && calls_without_arguments p.procedures block && has_plain_half block)
     ∷ check codes.no_entity (places.Block b) (are_there p.entities (named_entities block) && called_are_there p.procedures block)
     ∷ []
 

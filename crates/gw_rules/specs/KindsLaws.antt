@@ -16,7 +16,8 @@ use Rattle.gw_rules.specs.declared.ways.Exit.{Exit}
 use Rattle.gw_rules.specs.Exits.{leads_to, exits, other_way}
 use Rattle.gw_rules.specs.Procedures.{entity_in, procedure_in, block_in, draws_nothing, has_good_numbers}
 use Rattle.gw_operands.specs.Sources.{kind_at, operand_of, procedure_named}
-use Rattle.gw_rules.specs.Kinds.{serves_as, entity_of, block_of, named_entities, named_procedures, has_plain_argument, has_plain_half, entities_of_row, return_rows_of, block_at, named_blocks, is_generate, is_call_at, has_good_constants, chain_row}
+use Rattle.gw_rules.specs.Kinds.{serves_as, entity_of, block_of, named_entities, named_procedures, has_plain_argument, has_plain_half}
+use Rattle.gw_rules.specs.Kinds.{entities_of_row, return_rows_of, block_at, named_blocks, is_generate, is_call_at, has_good_constants, chain_row}
 use Rattle.gw_rules.specs.Pass.{KindsPass}
 
 -- an entity that is named is there, and is what it is needed as
@@ -63,7 +64,8 @@ pub record RowHolds (p : Parts) (row : TableState) : Type 0 where
   pub entities : All (IsEntity p.entities) (entities_of_row row)
   pub returns : All (λ r. r < length p.returns) (return_rows_of row)
 
--- kinds, at the block of number b: the entities, the procedures and the blocks that it names, that half the range of a time is no function's value, where it goes on and where it sends others, and its constants
+-- kinds, at the block of number b: the entities, the procedures and the blocks that it names, that half the range of a
+-- time is no function's value, where it goes on and where it sends others, and its constants
 pub record BlockHolds (p : Parts) (b : ℕ) (block : Block) : Type 0 where
   pub entities : All (IsEntity p.entities) (named_entities block)
   pub procedures : All (TakesNoArguments p) (named_procedures block)
@@ -77,7 +79,11 @@ pub record BlockHolds (p : Parts) (b : ℕ) (block : Block) : Type 0 where
 abbrev pub ChainHolds : Parts → ℕ → Entity → Type 0
 ChainHolds p e entity = IsTrue (is_chain entity.kind) → IfSome (chain_row p e) (RowHolds p)
 
--- kinds pass exactly where they hold at each entity, at each procedure, at each return row, in each row of the state table, those of user chains too, and at each block
+-- kinds pass exactly where they hold at each entity, at each procedure, at each return row, in each row of the state
+-- table, those of user chains too, and at each block
 abbrev pub KindsPassAtEachPlace : Type 0
 KindsPassAtEachPlace =
-    (p : Parts) → KindsPass p ↔ All (EntityHolds p) p.entities × All (ProcedureHolds p) p.procedures × All (ReturnsHold p) p.returns × All (λ row. IfSome row (RowHolds p)) p.states × ((e : ℕ) (entity : Entity) → slice_get p.entities e ≡ Some entity → ChainHolds p e entity) × ((b : ℕ) (block : Block) → block_at p.blocks b ≡ Some block → BlockHolds p b block)
+    (p : Parts) → KindsPass p ↔ All (EntityHolds p) p.entities × All (ProcedureHolds p) p.procedures × All (ReturnsHold p) p.returns
+    × All (λ row. IfSome row (RowHolds p)) p.states
+    × ((e : ℕ) (entity : Entity) → slice_get p.entities e ≡ Some entity → ChainHolds p e entity)
+    × ((b : ℕ) (block : Block) → block_at p.blocks b ≡ Some block → BlockHolds p b block)

@@ -27,7 +27,8 @@ pub record RulesHold (p : Parts) (n : ℕ) (pr : Procedure) (height : ℕ → �
 abbrev pub IsLedTo : List Instruction → ℕ → Type 0
 IsLedTo code k = (j : ℕ) × (i : Instruction) × (j < k) × (slice_get code j ≡ Some i) × IsTrue (is_among (targets j i) k)
 
--- the stack has one height before each instruction of the procedure n, and is empty before the first; an earlier one leads to each other one; each rule holds; and the procedure isn't too costly
+-- the stack has one height before each instruction of the procedure n, and is empty before the first; an earlier one
+-- leads to each other one; each rule holds; and the procedure isn't too costly
 pub record HasHeights (p : Parts) (n : ℕ) (pr : Procedure) : Type 0 where
   pub height : ℕ → ℕ
   pub start : height 0 ≡ 0

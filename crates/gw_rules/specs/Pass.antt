@@ -22,7 +22,8 @@ return_and_later_checks p = checks_by_number (return_checks p) 0 p.returns ++ ro
 abbrev pub procedure_and_later_checks : Parts → List Check
 procedure_and_later_checks p = checks_by_number (procedure_checks p) 0 p.procedures ++ return_and_later_checks p
 
--- every check of kinds, in order: of entities, of procedures, of return rows, of the state table's rows, those of blocks before those of user chains, and of blocks
+-- every check of kinds, in order: of entities, of procedures, of return rows, of the state table's rows, those of
+-- blocks before those of user chains, and of blocks
 unfoldable pub kinds_checks : Parts → List Check
 kinds_checks p = checks_by_number (entity_checks p) 0 p.entities ++ procedure_and_later_checks p
 

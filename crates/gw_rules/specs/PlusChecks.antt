@@ -50,7 +50,9 @@ fits_ahead heights height k i = nat_le height most_values && agrees_ahead height
 
 -- ONE INSTRUCTION
 
--- of the instruction k of the procedure n: a height is known before it (30); it leads where it may (32), calls a lower procedure (33), and asks for parameters that the procedure needs (35); it finds as many values as it takes (31), and leaves no more than the stack holds, and the height that is known where it leads (30)
+-- of the instruction k of the procedure n: a height is known before it (30); it leads where it may (32), calls a lower
+-- procedure (33), and asks for parameters that the procedure needs (35); it finds as many values as it takes (31), and
+-- leaves no more than the stack holds, and the height that is known where it leads (30)
 abbrev pub instruction_checks : Parts → ℕ → Procedure → Heights → ℕ → Instruction → Option ℕ → List Check
 instruction_checks p n pr heights k i None = check codes.stack_height (places.Code n k) false ∷ []
 instruction_checks p n pr heights k i (Some height) =

@@ -18,7 +18,8 @@ use Rattle.gw_operands.specs.Outcome.{answer_within, outcome_of}
 abbrev pub HasSet : Environment → List ℕ → Type 0
 HasSet env needs = (x : ℕ) → is_among needs x ≡ true → (v : ℤ) × (at None env.parameters x ≡ Some v)
 
--- what the format and kinds say of each procedure and each entity: a procedure keeps its limits, and each number in it, and in an entity, names something of its kind
+-- what the format and kinds say of each procedure and each entity: a procedure keeps its limits, and each number in it,
+-- and in an entity, names something of its kind
 pub record CodeHolds (p : Parts) : Type 0 where
   pub procedures : (n : ℕ) (pr : Procedure) → procedure_at p n ≡ Some pr → ProcedureFits pr × ProcedureHolds p pr
   pub entities : All (EntityHolds p) p.entities
@@ -31,15 +32,18 @@ pub record MayBegin (p : Parts) (env : Environment) (n : ℕ) (pr : Procedure) (
 
 -- from one place at most one outcome is derived, after as many instructions
 abbrev pub OneOutcome : Type 0
-OneOutcome = (p : Parts) (env : Environment) (n : ℕ) (f : Frame) (k m : ℕ) (r s : Result ℤ PlusEnd) → Derives p env n f k r → Derives p env n f m s → (k ≡ m) × (r ≡ s)
+OneOutcome = (p : Parts) (env : Environment) (n : ℕ) (f : Frame) (k m : ℕ) (r s : Result ℤ PlusEnd) → Derives p env n f k r
+    → Derives p env n f m s → (k ≡ m) × (r ≡ s)
 
 -- what is answered within so many instructions is derived
 abbrev pub AnswersAreDerived : Type 0
-AnswersAreDerived = (p : Parts) (env : Environment) (most n : ℕ) (f : Frame) (r : Result ℤ PlusEnd) → answer_within p env most n f ≡ Some r → (k : ℕ) × Derives p env n f k r
+AnswersAreDerived = (p : Parts) (env : Environment) (most n : ℕ) (f : Frame) (r : Result ℤ PlusEnd) → answer_within p env most n f ≡ Some r
+    → (k : ℕ) × Derives p env n f k r
 
 -- and what is derived is answered, within as many instructions or more
 abbrev pub DerivedIsAnswered : Type 0
-DerivedIsAnswered = (p : Parts) (env : Environment) (most n : ℕ) (f : Frame) (k : ℕ) (r : Result ℤ PlusEnd) → Derives p env n f k r → k ≤ most → answer_within p env most n f ≡ Some r
+DerivedIsAnswered = (p : Parts) (env : Environment) (most n : ℕ) (f : Frame) (k : ℕ) (r : Result ℤ PlusEnd) → Derives p env n f k r → k
+    ≤ most → answer_within p env most n f ≡ Some r
 
 -- an outcome depends on nothing but the values that are kept
 abbrev pub OutcomesDependOnWhatIsKept : Type 0
@@ -54,7 +58,8 @@ HasOutcome =
 -- and it comes to its outcome after at most as many instructions as its procedure costs
 abbrev pub CostBounds : Type 0
 CostBounds =
-    (p : Parts) (env : Environment) (n : ℕ) (pr : Procedure) (arguments : List ℤ) (k : ℕ) (r : Result ℤ PlusEnd) → HasSpelling p → KindsPass p → PlusPasses p → MayBegin p env n pr arguments
+    (p : Parts) (env : Environment) (n : ℕ) (pr : Procedure) (arguments : List ℤ) (k : ℕ) (r : Result ℤ PlusEnd) → HasSpelling p
+    → KindsPass p → PlusPasses p → MayBegin p env n pr arguments
     → Derives p env n (opening_frame (Some pr) arguments) k r → k ≤ at 0 (costs_of p) n
 
 -- so each procedure without arguments whose parameters are set has its one outcome

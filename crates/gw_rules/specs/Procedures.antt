@@ -39,7 +39,9 @@ has_good_numbers locals (Set local) = nat_lt local locals
 has_good_numbers locals (Back b) = nat_le 1 b.count && nat_le b.count 1000000
 has_good_numbers locals instruction = true
 
--- of the instruction k of the procedure n with so many locals: its entity is of the right kind, and it draws nothing (10); that entity and the procedure that is called are there (11), and so is its block (12); its numbers are good (15)
+-- of the instruction k of the procedure n with so many locals: its entity is of the right kind, and it draws nothing
+-- (10); that entity and the procedure that is called are there (11), and so is its block (12); its numbers are good
+-- (15)
 abbrev pub instruction_checks : Parts → ℕ → ℕ → ℕ → Instruction → List Check
 instruction_checks p n locals k i =
     check codes.wrong_kind (places.Code n k) (is_none_or (entity_in i) (is_no_other_kind p.entities) && draws_nothing p.entities i)

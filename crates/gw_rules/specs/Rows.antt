@@ -1,5 +1,6 @@
 -- Abstract states: what is known of a transaction that is about to enter a block.
-use Rattle.std.specs.Prelude.{◌≡◌, ◌≢◌, ℕ, ◌≤◌, ◌<◌, ◌^◌, List, [], length, Option, Some, None, Bool, IsTrue, true, false, ◌&&◌, ◌==◌, nat_eq, nat_le, if◌then◌else◌, All, AllPairs}
+use Rattle.std.specs.Prelude.{◌≡◌, ◌≢◌, ℕ, ◌≤◌, ◌<◌, ◌^◌, List, [], length, Option, Some, None, Bool, IsTrue, true, false, ◌&&◌, ◌==◌, nat_eq, nat_le}
+use Rattle.std.specs.Prelude.{if◌then◌else◌, All, AllPairs}
 use Rattle.std.specs.List.{list_all}
 use Rattle.std.specs.Cmp.Lexicographic.{pointwise}
 use Rattle.gw_rules.specs.Entries.{lists, with_number, without_number, entry, amount_of, with_entry}
@@ -9,7 +10,8 @@ pub data ParamKind : Type 0 where
   Num : ParamKind
   Ret : (blocks : List ℕ) → ParamKind
 
--- an abstract state: the parameters that are sure to be set and what they hold, exactly the facilities that are owned, and the units that are sure to be held, by entity
+-- an abstract state: the parameters that are sure to be set and what they hold, exactly the facilities that are owned,
+-- and the units that are sure to be held, by entity
 pub record Row : Type 0 where
   pub params : List (ℕ × ParamKind)
   pub facilities : List ℕ
@@ -101,7 +103,8 @@ pub record HasRoom (row : Row) : Type 0 where
 
 -- FITS
 
--- whether what a parameter holds fits what a row says of it: anything where the row says nothing, a number for a number, and for a return one to some of the same blocks
+-- whether what a parameter holds fits what a row says of it: anything where the row says nothing, a number for a
+-- number, and for a return one to some of the same blocks
 abbrev pub kind_fits : Option ParamKind → Option ParamKind → Bool
 kind_fits kind None = true
 kind_fits (Some Num) (Some Num) = true

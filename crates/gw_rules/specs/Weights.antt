@@ -1,5 +1,6 @@
 -- Weights: how many block entries each place is worth, and the checks of a weight certificate in order.
-use Rattle.std.specs.Prelude.{◌≡◌, ℕ, zero, suc, ◌+◌, ◌*◌, ℤ, pos, negsuc, List, [], ◌∷◌, ◌++◌, slice_index_or, Option, Some, None, is_some, is_none, Bool, true, false, not, ◌||◌, ◌&&◌, ◌==◌, nat_le, if◌then◌else◌}
+use Rattle.std.specs.Prelude.{◌≡◌, ℕ, zero, suc, ◌+◌, ◌*◌, ℤ, pos, negsuc, List, [], ◌∷◌, ◌++◌, slice_index_or, Option, Some, None, is_some, is_none}
+use Rattle.std.specs.Prelude.{Bool, true, false, not, ◌||◌, ◌&&◌, ◌==◌, nat_le, if◌then◌else◌}
 use Rattle.std.specs.Borrow.{Bor}
 use Rattle.std.specs.List.{flat_map}
 use Rattle.std.specs.Option.{option_map, option_map_or}
@@ -55,7 +56,8 @@ weight_of p (targets.Chain c) = chain_weight p c
 
 -- SLOPES
 
--- the slope of the block of a number, where these are the slopes of all, if it has one: a parameter, and how much its weight grows with each unit of that above 0
+-- the slope of the block of a number, where these are the slopes of all, if it has one: a parameter, and how much its
+-- weight grows with each unit of that above 0
 abbrev pub slope_at : List (Option (ℕ × ℕ)) → ℕ → Option (ℕ × ℕ)
 slope_at slopes zero = None
 slope_at slopes (suc i) = slice_index_or slopes i None
@@ -124,12 +126,15 @@ is_on (Some own) (Some slope) = own.0 == slope.0
 -- whether the block of number b pays for the entry, for the block after it, and for so many copies at another one
 abbrev pub pays_copies : Parts → ℕ → ℕ → ℕ → Bool
 pays_copies p b copies target =
-    (nat_le (1 + weight_at p.weights (b + 1) + copies * weight_at p.weights target) (weight_at p.weights b) && is_on (slope_at p.slopes b) (slope_at p.slopes (b + 1)))
-    && (is_on (slope_at p.slopes b) (slope_at p.slopes target) && nat_le (per_of (slope_at p.slopes (b + 1)) + copies * per_of (slope_at p.slopes target)) (per_of (slope_at p.slopes b)))
+    (nat_le (1 + weight_at p.weights (b + 1) + copies * weight_at p.weights target) (weight_at p.weights b)
+    && is_on (slope_at p.slopes b) (slope_at p.slopes (b + 1)))
+    && (is_on (slope_at p.slopes b) (slope_at p.slopes target)
+    && nat_le (per_of (slope_at p.slopes (b + 1)) + copies * per_of (slope_at p.slopes target)) (per_of (slope_at p.slopes b)))
 
 -- whether the block of number b pays for who goes along a way of it
 abbrev pub pays_way : Parts → ℕ → Block → Way → Who → Bool
-pays_way p b block way Itself = pays_to (weight_at p.weights b) (slope_at p.slopes b) (weight_at p.weights (leads_to b way)) block way (slope_at p.slopes (leads_to b way))
+pays_way p b block way Itself =
+    pays_to (weight_at p.weights b) (slope_at p.slopes b) (weight_at p.weights (leads_to b way)) block way (slope_at p.slopes (leads_to b way))
 pays_way p b block way (Copies copies) = pays_copies p b copies (leads_to b way)
 
 -- whether somebody may go along an exit in the clock moment of the entry
@@ -150,7 +155,8 @@ is_number kind = false
 -- the slope of a block that has a row is on a parameter that is a number there (43)
 abbrev pub slope_checks : Parts → ℕ → Option Row → List Check
 slope_checks p b None = []
-slope_checks p b (Some row) = option_map_or (λ (slope : ℕ × ℕ). check codes.slope_param (places.Block b) (is_number (kind_of row slope.0)) ∷ []) (slope_at p.slopes b) []
+slope_checks p b (Some row) =
+    option_map_or (λ (slope : ℕ × ℕ). check codes.slope_param (places.Block b) (is_number (kind_of row slope.0)) ∷ []) (slope_at p.slopes b) []
 
 -- the arrivals of a GENERATE, whether it has a row or not (42)
 abbrev pub arrival_checks : ℕ → Block → List Check
@@ -160,12 +166,15 @@ arrival_checks b block = []
 -- a LINK pays for the entry and for its user chain, and a user chain that has a row for where an UNLINK sends its members (41)
 abbrev pub chain_checks : Parts → ℕ → Block → List Check
 chain_checks p b (blocks.Link l) = check codes.chain_weight (places.Block b) (nat_le (1 + chain_weight p l.chain) (weight_at p.weights b)) ∷ []
-chain_checks p b (blocks.Unlink u) = check codes.chain_weight (places.Block b) (is_none (slope_at p.slopes u.target)) ∷ (if is_some (own_table p (targets.Chain u.chain)) then check codes.chain_weight (places.Block b) (nat_le (weight_at p.weights u.target) (chain_weight p u.chain)) ∷ [] else [])
+chain_checks p b (blocks.Unlink u) = check codes.chain_weight (places.Block b) (is_none (slope_at p.slopes u.target))
+    ∷ (if is_some (own_table p (targets.Chain u.chain)) then
+    check codes.chain_weight (places.Block b) (nat_le (weight_at p.weights u.target) (chain_weight p u.chain)) ∷ [] else [])
 chain_checks p b block = []
 
 -- the block of number b pays for the entry, and for where one of its exits leads at once (40)
 abbrev pub exit_checks : Parts → ℕ → Block → Exit → List Check
-exit_checks p b block exit = if goes_at_once exit then check codes.weight_edge (places.Edge b (leads_to b exit.way)) (pays_way p b block exit.way exit.who) ∷ [] else []
+exit_checks p b block exit = if goes_at_once exit then
+    check codes.weight_edge (places.Edge b (leads_to b exit.way)) (pays_way p b block exit.way exit.who) ∷ [] else []
 
 -- for where each of these leads
 abbrev pub exits_checks : Parts → ℕ → Block → List Exit → List Check

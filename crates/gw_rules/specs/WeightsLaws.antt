@@ -61,10 +61,12 @@ PaysWay p b block way (Copies copies) = PaysCopies p b copies (leads_to b way)
 abbrev pub PaysExit : Parts → ℕ → Block → Exit → Type 0
 PaysExit p b block exit = IsTrue (goes_at_once exit) → PaysWay p b block exit.way exit.who
 
--- a LINK, the block of number b, pays for the entry and for its user chain, and the user chain of an UNLINK, where it has a row, for where its members go; there is no slope there
+-- a LINK, the block of number b, pays for the entry and for its user chain, and the user chain of an UNLINK, where it
+-- has a row, for where its members go; there is no slope there
 abbrev pub PaysChain : Parts → ℕ → Block → Type 0
 PaysChain p b (blocks.Link l) = 1 + chain_weight p l.chain ≤ weight_at p.weights b
-PaysChain p b (blocks.Unlink u) = (slope_at p.slopes u.target ≡ None) × (IsSome (own_table p (targets.Chain u.chain)) → weight_at p.weights u.target ≤ chain_weight p u.chain)
+PaysChain p b (blocks.Unlink u) = (slope_at p.slopes u.target ≡ None)
+    × (IsSome (own_table p (targets.Chain u.chain)) → weight_at p.weights u.target ≤ chain_weight p u.chain)
 PaysChain p b block = Unit {0}
 
 -- the block of number b pays for all that follows at once from an entry in a row
@@ -73,7 +75,8 @@ pub record Pays (p : Parts) (b : ℕ) (block : Block) (row : Row) : Type 0 where
   pub chain : PaysChain p b block
   pub exits : All (PaysExit p b block) (exits_with (returns_read block row) block)
 
--- a weighted object: each block and each user chain weighs 1 or more, the arrivals of each GENERATE are bounded in a clock moment, and each block with a row pays for what follows from an entry
+-- a weighted object: each block and each user chain weighs 1 or more, the arrivals of each GENERATE are bounded in a
+-- clock moment, and each block with a row pays for what follows from an entry
 pub record Weighted (p : Parts) : Type 0 where
   pub least : (b : ℕ) (block : Block) → block_at p.blocks b ≡ Some block → 1 ≤ weight_at p.weights b
   pub chains : (c : ℕ) → kind_at p.entities c ≡ Some Chain → 1 ≤ chain_weight p c

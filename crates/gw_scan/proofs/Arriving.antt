@@ -19,6 +19,7 @@ module _ (p : Parts) (n : ℕ) (t : Transaction) (g : Generate) (s : State) wher
       (o >>= (λ d. within_live_limit 1 s (Gives (arrives t.next g.priority d.0 (with_streams d.1 s)))) >>= λ after.
       leads p.blocks (t.next + 1) (stays (enters_and_falls n (record t { mark = s.clock }) after)))
 
-  pub act-generate : (o : Outcome (ℤ × List ℕ)) → is_owed g.limit (at 0 s.scheduled t.next) ≡ true → drawn_moment p (environment_of_next g.priority s) g.interval s.clock s.streams ≡ o → act p n t (blocks.Generate g) s ≡ arriving o
+  pub act-generate : (o : Outcome (ℤ × List ℕ)) → is_owed g.limit (at 0 s.scheduled t.next) ≡ true
+      → drawn_moment p (environment_of_next g.priority s) g.interval s.clock s.streams ≡ o → act p n t (blocks.Generate g) s ≡ arriving o
   unfolding act effect
   act-generate o owed is = rw (owed, is) refl

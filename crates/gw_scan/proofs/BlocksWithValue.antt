@@ -18,7 +18,8 @@ use Rattle.gw_step.specs.Blocks.{leads, until, advance, assign, save, set_priori
 use Rattle.gw_step.specs.Changes.{enters_and_falls}
 
 -- what the one value of a block comes to
-one-value : {A B C : Type 0} (e : Evaluation A) (f : A → B) (g : B → Outcome C) → (evaluation_outcome (e then (λ a. Value (f a))) >>= g) ≡ (evaluation_outcome e >>= λ a. g (f a))
+one-value : {A B C : Type 0} (e : Evaluation A) (f : A → B) (g : B → Outcome C) → (evaluation_outcome (e then (λ a. Value (f a))) >>= g)
+    ≡ (evaluation_outcome e >>= λ a. g (f a))
 one-value (Value a) f g = refl
 one-value (Fails end) f g = refl
 one-value Unset f g = refl
@@ -45,28 +46,34 @@ module _ (p : Parts) (n : ℕ) (t : Transaction) (s : State) where
   act-plus a value streams is = rw is refl
 
   -- a TABULATE of a table with this argument
-  pub act-tabulate : (e : ℕ) (o : Operand) (value : ℤ) (streams : List ℕ) → operand_at p.entities e ≡ Some o → operand_value p (environment_of n t s) o s.streams ≡ Value (value, streams)
+  pub act-tabulate : (e : ℕ) (o : Operand) (value : ℤ) (streams : List ℕ) → operand_at p.entities e ≡ Some o
+      → operand_value p (environment_of n t s) o s.streams ≡ Value (value, streams)
       → act p n t (blocks.Tabulate e) s ≡ then_placed n (tabulate p.blocks n t e value (with_streams streams s))
   unfolding act effect
   act-tabulate e o value streams argument is =
-      ap (λ (x : Option Operand). evaluation_outcome (one_operand p (environment_of n t s) x s.streams) >>= λ read. meets p n t (blocks.Tabulate e) read.0 (with_streams read.1 s)) argument
+      ap (λ (x : Option Operand). evaluation_outcome (one_operand p (environment_of n t s) x s.streams)
+      >>= λ read. meets p n t (blocks.Tabulate e) read.0 (with_streams read.1 s)) argument
       ∙ rw is refl
 
   -- an ADVANCE whose time was drawn
   abbrev pub advanced : ℤ × List ℕ → Outcome State
   advanced d = then_placed n (leads p.blocks (t.next + 1) (Gives (enters_and_falls n t (with_streams d.1 s), until s.clock d.0)))
 
-  resting : (o : Outcome (ℤ × List ℕ)) → (o >>= λ d. then_placed n (advance p.blocks n t d.0 (with_streams d.1 s))) ≡ (o >>= (λ d. moment_after s.clock d.0 >>= λ moment. Gives (moment, d.1)) >>= advanced)
+  resting : (o : Outcome (ℤ × List ℕ)) → (o >>= λ d. then_placed n (advance p.blocks n t d.0 (with_streams d.1 s)))
+      ≡ (o >>= (λ d. moment_after s.clock d.0 >>= λ moment. Gives (moment, d.1)) >>= advanced)
   resting (Gives d) = by (moment_after s.clock d.0)
     where
-      by : (o : Outcome ℤ) → then_placed n (o >>= λ moment. leads p.blocks (t.next + 1) (Gives (enters_and_falls n t (with_streams d.1 s), until s.clock moment))) ≡ ((o >>= λ moment. Gives (moment, d.1)) >>= advanced)
+      by : (o : Outcome ℤ) → then_placed n
+          (o >>= λ moment. leads p.blocks (t.next + 1) (Gives (enters_and_falls n t (with_streams d.1 s), until s.clock moment)))
+          ≡ ((o >>= λ moment. Gives (moment, d.1)) >>= advanced)
       by (Gives moment) = refl
       by (EndsBy end) = refl
       by HasNoCase = refl
   resting (EndsBy end) = refl
   resting HasNoCase = refl
 
-  pub act-advance : (time : Spread) (o : Outcome (ℤ × List ℕ)) → drawn_moment p (environment_of n t s) time s.clock s.streams ≡ o → act p n t (blocks.Advance time) s ≡ (o >>= advanced)
+  pub act-advance : (time : Spread) (o : Outcome (ℤ × List ℕ)) → drawn_moment p (environment_of n t s) time s.clock s.streams ≡ o
+      → act p n t (blocks.Advance time) s ≡ (o >>= advanced)
   unfolding act effect
   act-advance time o is =
       one-value (drawn_time p (environment_of n t s) time s.streams) single_value (λ read. meets p n t (blocks.Advance time) read.0 (with_streams read.1 s))

@@ -1,5 +1,6 @@
 -- A job of seeds, a count and a budget in range has its numbers in range.
-use Rattle.std.proofs.Common.{◌≡◌, ℕ, zero, suc, ◌+◌, ◌≤◌, ◌<◌, ◌^◌, List, [], ◌∷◌, length, None, Bool, true, false, if◌then◌else◌, ◌==◌, refl, sym, subst, arith}
+use Rattle.std.proofs.Common.{◌≡◌, ℕ, zero, suc, ◌+◌, ◌≤◌, ◌<◌, ◌^◌, List, [], ◌∷◌, length, None, Bool, true, false, if◌then◌else◌, ◌==◌, refl, sym}
+use Rattle.std.proofs.Common.{subst, arith}
 use Rattle.std.specs.Prelude.{nat_le, slice_index_or}
 use Rattle.std.specs.List.{All, AllByRecursion, list_all}
 use Rattle.std.proofs.lemmas.Bool.Decides.{nat_tests}
@@ -10,12 +11,14 @@ use Rattle.gw_step.specs.Job.{seed_at, streams_of}
 use Rattle.gw_scan.specs.Making.{seeds_fit, spec_fault, seeds_or, count_or}
 
 -- seeds, a count and a budget of which nothing is refused are in range
-pub in_range : (seeds : List ℕ) (count budget : ℕ) → spec_fault seeds count budget ≡ None → (seeds_fit seeds ≡ true) × (count ≤ 2 ^ 40) × (0 < budget) × (budget ≤ 2 ^ 40)
+pub in_range : (seeds : List ℕ) (count budget : ℕ) → spec_fault seeds count budget ≡ None → (seeds_fit seeds ≡ true) × (count ≤ 2 ^ 40)
+    × (0 < budget) × (budget ≤ 2 ^ 40)
 in_range seeds count budget none = grind (arith, nat_tests)
 
 tested : (seeds : List ℕ) → list_all (λ seed. nat_le seed 2147483646) seeds ≡ true → AllByRecursion (λ seed. seed ≤ 2147483646) seeds
 tested [] e = tt
-tested (x ∷ xs) e = let both = and_parts (nat_le x 2147483646) (list_all (λ seed. nat_le seed 2147483646) xs) e in (leb-true x 2147483646 both.0, tested xs both.1)
+tested (x ∷ xs) e = let both = and_parts (nat_le x 2147483646) (list_all (λ seed. nat_le seed 2147483646) xs) e in
+    (leb-true x 2147483646 both.0, tested xs both.1)
 
 within-at : (seeds : List ℕ) → AllByRecursion (λ seed. seed ≤ 2147483646) seeds → (i : ℕ) → slice_index_or seeds i 0 ≤ 2147483646
 within-at [] h i = omega arith
@@ -40,9 +43,11 @@ module _ (seeds : List ℕ) (within : AllByRecursion (λ seed. seed ≤ 21474836
       (given_or_own (slice_index_or seeds i 0) i (within-at seeds within i) in_16))
 
 -- the seeds that are given, which were tested, or the object's own
-pub seeds-within : (seeds own : List ℕ) → seeds_fit seeds ≡ true → All (λ seed. seed ≤ 2147483646) own → AllByRecursion (λ seed. seed ≤ 2147483646) (seeds_or seeds own)
+pub seeds-within : (seeds own : List ℕ) → seeds_fit seeds ≡ true → All (λ seed. seed ≤ 2147483646) own
+    → AllByRecursion (λ seed. seed ≤ 2147483646) (seeds_or seeds own)
 seeds-within [] own e h = recursion_from_All (λ seed. seed ≤ 2147483646) own h
-seeds-within (seed ∷ seeds) own e h = tested (seed ∷ seeds) (and_parts (nat_le (length (seed ∷ seeds)) 16) (list_all (λ s. nat_le s 2147483646) (seed ∷ seeds)) e).1
+seeds-within (seed ∷ seeds) own e h =
+    tested (seed ∷ seeds) (and_parts (nat_le (length (seed ∷ seeds)) 16) (list_all (λ s. nat_le s 2147483646) (seed ∷ seeds)) e).1
 
 -- the count that is given, or the object's own
 pub count-within : (count own : ℕ) → count ≤ 2 ^ 40 → 1 ≤ own → own ≤ 2 ^ 40 → (0 < count_or count own) × (count_or count own ≤ 2 ^ 40)

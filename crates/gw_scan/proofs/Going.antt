@@ -25,7 +25,8 @@ stays_at p t pair is = by (t.current == t.next) refl is
     by true same is = eqb-true t.current t.next same
     by false same is = absurd cc
 
-module _ (n : ℕ) (t : Transaction) (to : ℕ) (s : State) (active : s.lists.active ≡ Some n) (found : attributes_at n s.transactions ≡ Some t) (stays : t.current ≡ t.next) where
+module _ (n : ℕ) (t : Transaction) (to : ℕ) (s : State) (active : s.lists.active ≡ Some n)
+    (found : attributes_at n s.transactions ≡ Some t) (stays : t.current ≡ t.next) where
   -- who has turned has both its next blocks again
   back : active_back (turn_to n t to s) ≡ s
   back =
@@ -35,9 +36,12 @@ module _ (n : ℕ) (t : Transaction) (to : ℕ) (s : State) (active : s.lists.ac
       ∙ turned-back n t to s found
 
 -- what a turn did is undone
-pub turn-undone : (v : Visit) (pair : ℕ × ℕ) (to : ℕ) (before : Before) (m new : Configuration) → IsVisit v m → two_next v.verified.now v.transaction ≡ Some pair → before.turned ≡ true → before.streams ≡ m.streams → HasTurned v to m new → undo_from before (state_of new) ≡ state_of m
+pub turn-undone : (v : Visit) (pair : ℕ × ℕ) (to : ℕ) (before : Before) (m new : Configuration) → IsVisit v m
+    → two_next v.verified.now v.transaction ≡ Some pair → before.turned ≡ true → before.streams ≡ m.streams → HasTurned v to m new
+    → undo_from before (state_of new) ≡ state_of m
 turn-undone v pair to before m new is two turned_is streams h =
     ap (λ b. if b then with_streams before.streams (active_back (state_of new)) else state_of new) turned_is
     ∙ ap (λ (s : State). with_streams before.streams (active_back s)) (h.0).0
-    ∙ ap (with_streams before.streams) (back v.tx.number v.transaction to (with_streams new.streams (state_of m)) (active_in v m is) is.found (stays_at v.verified.now v.transaction pair two))
+    ∙ ap (with_streams before.streams)
+    (back v.tx.number v.transaction to (with_streams new.streams (state_of m)) (active_in v m is) is.found (stays_at v.verified.now v.transaction pair two))
     ∙ ap (λ (k : List ℕ). with_streams k (state_of m)) streams

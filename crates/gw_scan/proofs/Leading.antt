@@ -1,5 +1,6 @@
 -- To which blocks moves lead.
-use Rattle.std.proofs.Common.{◌≡◌, ℕ, zero, suc, ◌+◌, ◌++◌, ◌≤◌, ◌<◌, ℤ, List, [], ◌∷◌, map, length, Option, Some, None, Bool, true, false, if◌then◌else◌, subst, arith}
+use Rattle.std.proofs.Common.{◌≡◌, ℕ, zero, suc, ◌+◌, ◌++◌, ◌≤◌, ◌<◌, ℤ, List, [], ◌∷◌, map, length, Option, Some, None, Bool, true, false}
+use Rattle.std.proofs.Common.{if◌then◌else◌, subst, arith}
 use Rattle.std.specs.Prelude.{slice_get, int_lt, pos, IfSome, unwrap_or}
 use Rattle.std.specs.List.{AllByRecursion}
 use Rattle.gw_blocks.specs.declared.parts.Block.{Block}
@@ -24,7 +25,9 @@ is_number bs (suc i) few may = let below = within bs i may in (omega arith, omeg
 
 module _ (bs : List Block) (b : ℕ) where
   -- a TEST or a GATE leads to the next block, and to the other one that it names
-  pub tested_lead : (otherwise : Option ℕ) → AllByRecursion (λ way. MayLead bs (leads_to b way)) (map (λ (exit : Exit). exit.way) (falls_or_goes otherwise) ++ []) → MayLead bs (b + 1) × IfSome otherwise (MayLead bs)
+  pub tested_lead : (otherwise : Option ℕ)
+      → AllByRecursion (λ way. MayLead bs (leads_to b way)) (map (λ (exit : Exit). exit.way) (falls_or_goes otherwise) ++ [])
+      → MayLead bs (b + 1) × IfSome otherwise (MayLead bs)
   tested_lead None leads = (leads.0, tt)
   tested_lead (Some target) leads = (leads.0, leads.1.0)
 

@@ -19,5 +19,6 @@ slice_stays_paid p q first later job order clock = entries_are_paid p.job p.stat
 })
 
 -- by one step
-pub stays_paid : (j : Job) (s t : State) → IsReached (record { job = j; state = s }) → s.ended ≡ None → Step j s t → StaysPaid (record { job = j; state = s }) (record { job = j; state = t })
+pub stays_paid : (j : Job) (s t : State) → IsReached (record { job = j; state = s }) → s.ended ≡ None → Step j s t
+    → StaysPaid (record { job = j; state = s }) (record { job = j; state = t })
 stays_paid j s t r runs next = slice_stays_paid _ _ r (reached_more j s t r runs next) refl (omega (arith, steps_are_counted j s t next))

@@ -37,7 +37,8 @@ block_within bs (suc i) is = elim (cases_lt i (length bs)) [
 ]
 
 -- the next block of a visit is there decoded
-pub decoded_there : (v : Visit) (m : Configuration) (table : List Decoded) → MayMake v m → map origin table ≡ v.verified.now.blocks → (1 ≤ v.transaction.next) × (v.transaction.next ≤ length table)
+pub decoded_there : (v : Visit) (m : Configuration) (table : List Decoded) → MayMake v m → map origin table ≡ v.verified.now.blocks
+    → (1 ≤ v.transaction.next) × (v.transaction.next ≤ length table)
 decoded_there v m table may same =
     let within = block_within v.verified.now.blocks v.transaction.next (next_there v m may) in
     (within.0, omega (arith, within.1, ap length same, length-map table origin))

@@ -32,7 +32,8 @@ module _ (v : Visit) (m : Configuration) (ready : IsReady v.verified.now m) wher
     active = active;
     held = held;
     found = found;
-    next = next-within v.verified.now.blocks v.transaction.next _ (ready.served v.tx.number v.transaction (ap (option_map (λ (tx : Tx). tx.number)) active) found);
+    next = next-within v.verified.now.blocks v.transaction.next _
+        (ready.served v.tx.number v.transaction (ap (option_map (λ (tx : Tx). tx.number)) active) found);
   }
 
   module _ (is : IsVisit v m) where
@@ -41,13 +42,16 @@ module _ (v : Visit) (m : Configuration) (ready : IsReady v.verified.now m) wher
 
     -- or tries one of two
     pub may_try_first : (pair : ℕ × ℕ) → two_next v.verified.now v.transaction ≡ Some pair → MayTry v pair.0 m
-    may_try_first pair two = record { visit = is; own = ready.own; slots = ready.slots; turns = (ready.turns v.tx.number v.transaction pair (active_in v m is) is.found two).0 }
+    may_try_first pair two =
+        record { visit = is; own = ready.own; slots = ready.slots; turns = (ready.turns v.tx.number v.transaction pair (active_in v m is) is.found two).0 }
 
     pub may_try_second : (pair : ℕ × ℕ) → two_next v.verified.now v.transaction ≡ Some pair → MayTry v pair.1 m
-    may_try_second pair two = record { visit = is; own = ready.own; slots = ready.slots; turns = (ready.turns v.tx.number v.transaction pair (active_in v m is) is.found two).1 }
+    may_try_second pair two =
+        record { visit = is; own = ready.own; slots = ready.slots; turns = (ready.turns v.tx.number v.transaction pair (active_in v m is) is.found two).1 }
 
     -- with one next block nothing is to be done for it, and nothing to undo
-    pub one_next : (before : Before) → two_next v.verified.now v.transaction ≡ None → before.turned ≡ false → HasOneNext v (goes_from v (state_of m)) before m m v.transaction.next
+    pub one_next : (before : Before) → two_next v.verified.now v.transaction ≡ None → before.turned ≡ false
+        → HasOneNext v (goes_from v (state_of m)) before m m v.transaction.next
     one_next before none off = record {
       meets = ap (λ o. goes_on v.verified.now v.tx.number v.transaction o (state_of m)) none;
       undo = ap (λ (turned : Bool). if turned then with_streams before.streams (active_back (state_of m)) else state_of m) off;

@@ -38,7 +38,8 @@ turns_to_both p s checked spelled typed n t pair active found two =
       },
     )
 
-pub is_ready : (j : Job) (m : Configuration) → IsReached (record { job = j; state = state_of m }) → m.ended ≡ None → m.last ≡ greatest_set j.parts.blocks → IsReady j.parts m
+pub is_ready : (j : Job) (m : Configuration) → IsReached (record { job = j; state = state_of m }) → m.ended ≡ None → m.last
+    ≡ greatest_set j.parts.blocks → IsReady j.parts m
 is_ready j m r runs slots =
     let numbers = r.bounded.numbers in
     let entities : length m.entities.facilities.values ≡ length j.parts.entities = numbers.whole.entity_tables.facilities in
@@ -60,7 +61,8 @@ is_ready j m r runs slots =
       turns = turns_to_both j.parts (state_of m) r.fits.checked r.fits.spelled r.typed;
     }
 
-pub waiting-of : (j : Job) (m : Configuration) (e : ℕ) → IsReached (record { job = j; state = state_of m }) → e < length j.parts.entities → length (at [] m.waits.lists e) ≡ length (delay_list e (state_of m))
+pub waiting-of : (j : Job) (m : Configuration) (e : ℕ) → IsReached (record { job = j; state = state_of m }) → e < length j.parts.entities
+    → length (at [] m.waits.lists e) ≡ length (delay_list e (state_of m))
 waiting-of j m e r below =
     let entities : length m.entities.facilities.values ≡ length j.parts.entities = r.bounded.numbers.whole.entity_tables.facilities in
     sym (ap length (delay_list-at m e) ∙ length-map (at [] m.waits.lists e) member_number)

@@ -23,7 +23,8 @@ use Rattle.gw_scan.specs.declared.visit.Visit.{Visit}
 -- WHETHER A BLOCK REFUSES
 
 -- a TEST that names another block refuses nobody
-pub other_way : (p : Parts) (n : ℕ) (t : Transaction) (s : State) (test : Test) (other : ℕ) → test.otherwise ≡ Some other → refusal_by p n t (blocks.Test test) s ≡ no_refusal p n t (blocks.Test test) s
+pub other_way : (p : Parts) (n : ℕ) (t : Transaction) (s : State) (test : Test) (other : ℕ) → test.otherwise ≡ Some other
+    → refusal_by p n t (blocks.Test test) s ≡ no_refusal p n t (blocks.Test test) s
 other_way p n t s test other is = rw is refl
 
 -- who isn't refused goes on as if nobody had asked
@@ -34,9 +35,11 @@ let_by (EndsBy end) k otherwise = refl
 let_by HasNoCase k otherwise = refl
 
 module _ (p : Parts) (n : ℕ) (t : Transaction) (block : Block) (s : State) where
-  lets_enter : (otherwise : List ℕ → Outcome State) → (no_refusal p n t block s >>= (λ (answer : Bool × List ℕ). if answer.0 then otherwise answer.1 else act p n t block s)) ≡ act p n t block s
+  lets_enter : (otherwise : List ℕ → Outcome State)
+      → (no_refusal p n t block s >>= (λ (answer : Bool × List ℕ). if answer.0 then otherwise answer.1 else act p n t block s)) ≡ act p n t block s
   unfolding act
-  lets_enter otherwise = let_by (evaluation_outcome (operands p (environment_of n t s) block s.streams)) (λ read. meets p n t block read.0 (with_streams read.1 s)) otherwise
+  lets_enter otherwise = let_by (evaluation_outcome (operands p (environment_of n t s) block s.streams))
+      (λ read. meets p n t block read.0 (with_streams read.1 s)) otherwise
 
   module _ (there : block_at p.blocks t.next ≡ Some block) where
     -- the next block is this one
@@ -47,7 +50,8 @@ module _ (p : Parts) (n : ℕ) (t : Transaction) (block : Block) (s : State) whe
     refusal-is = ap (λ o. case_of o >>= λ block. refusal_by p n t block s) there
 
 -- what was answered of the refusal by this block was answered of the next one
-pub tells_of_next : (result : Result Bool PlusEnd) (v : Visit) (block : Block) (old new : Configuration) → block_at v.verified.now.blocks v.transaction.next ≡ Some block → TellsRefusal result new.streams v block (state_of old) → TellsOfNext result v old new
+pub tells_of_next : (result : Result Bool PlusEnd) (v : Visit) (block : Block) (old new : Configuration)
+    → block_at v.verified.now.blocks v.transaction.next ≡ Some block → TellsRefusal result new.streams v block (state_of old) → TellsOfNext result v old new
 tells_of_next (Ok true) v block old new there h = refusal-is v.verified.now v.tx.number v.transaction block (state_of old) there ∙ h
 tells_of_next (Ok false) v block old new there h =
     let p = v.verified.now in
@@ -55,8 +59,10 @@ tells_of_next (Ok false) v block old new there h =
     let t = v.transaction in
     let s = state_of old in (
       (λ otherwise.
-          ap (λ (o : Outcome (Bool × List ℕ)). o >>= (λ (answer : Bool × List ℕ). if answer.0 then otherwise answer.1 else meets_one p n t s)) (refusal-is p n t block s there ∙ h.0)
-          ∙ ap (λ (m : Outcome State). no_refusal p n t block s >>= (λ (answer : Bool × List ℕ). if answer.0 then otherwise answer.1 else m)) (meets-is p n t block s there)
+          ap (λ (o : Outcome (Bool × List ℕ)). o
+          >>= (λ (answer : Bool × List ℕ). if answer.0 then otherwise answer.1 else meets_one p n t s)) (refusal-is p n t block s there ∙ h.0)
+          ∙ ap (λ (m : Outcome State). no_refusal p n t block s
+          >>= (λ (answer : Bool × List ℕ). if answer.0 then otherwise answer.1 else m)) (meets-is p n t block s there)
           ∙ lets_enter p n t block s otherwise
           ∙ sym (meets-is p n t block s there)),
       h.1,

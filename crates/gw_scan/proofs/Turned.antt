@@ -27,13 +27,15 @@ use Rattle.gw_scan.specs.Visiting.{IsVisit, MayMake, MayTry, MayTurn}
 use Rattle.gw_scan.specs.declared.visit.Visit.{Visit}
 
 -- a steady machine whose state is this one, which is within the same bounds
-steady-by : (v : Visit) (m new : Configuration) (s : State) → IsVisit v m → state_of new ≡ s → s.steps ≡ m.steps → length s.entities.facilities ≡ length m.entities.facilities.values
+steady-by : (v : Visit) (m new : Configuration) (s : State) → IsVisit v m → state_of new ≡ s → s.steps ≡ m.steps
+    → length s.entities.facilities ≡ length m.entities.facilities.values
     → IsWithin (length v.verified.now.blocks) (length m.entities.facilities.values) m.steps (made_in m.steps) s → IsSteady v.verified.now.blocks new.steps new
 steady-by v m new s is same steps count within =
     let steps_now : new.steps ≡ m.steps = ap (λ (x : State). x.steps) same ∙ steps in
     subst (λ k. IsSteady v.verified.now.blocks k new) (sym steps_now)
     (steady-now v.verified.now.blocks m.steps m.steps m new is.steady (omega arith) (ap (λ (x : State). length x.entities.facilities) same ∙ count)
-    (subst (λ (x : State). IsWithin (length v.verified.now.blocks) (length m.entities.facilities.values) m.steps (made_in m.steps) x) (sym same) within) is.steady.few)
+    (subst (λ (x : State). IsWithin (length v.verified.now.blocks) (length m.entities.facilities.values) m.steps (made_in m.steps) x)
+    (sym same) within) is.steady.few)
 
 -- the block to which a visit leads is one of the object's
 pub next-within : (bs : List Block) (b : ℕ) (P : Block → Type 0) → IsSomeAnd (block_at bs b) P → b ≤ length bs
@@ -45,7 +47,8 @@ next-within bs b P some = by (block_at bs b) refl some
 
 module _ (v : Visit) (to : ℕ) (m : Configuration) (may : MayTry v to m) where
   -- who has turned to a block may meet it
-  pub made-at : (new : Configuration) → state_of new ≡ turn_to v.tx.number v.transaction to (state_of m) → new.active ≡ m.active → new.last ≡ m.last → Holds new.transactions v.tx → MayMake (visit_towards to v) new
+  pub made-at : (new : Configuration) → state_of new ≡ turn_to v.tx.number v.transaction to (state_of m) → new.active ≡ m.active → new.last
+      ≡ m.last → Holds new.transactions v.tx → MayMake (visit_towards to v) new
   made-at new same active last held =
       let n = v.tx.number in
       let t = v.transaction in
@@ -55,7 +58,9 @@ module _ (v : Visit) (to : ℕ) (m : Configuration) (may : MayTry v to m) where
       record {
         visit = record {
           steady = steady-by v m new now may.visit same refl refl
-              (within-turned (length p.blocks) (length m.entities.facilities.values) m.steps (made_in m.steps) (state_of m) may.visit.steady.within n to t (number_below m.transactions.txs n t may.visit.found) (mark_from m.transactions.txs n t may.visit.steady.within.marked may.visit.found));
+              (within-turned (length p.blocks) (length m.entities.facilities.values) m.steps (made_in m.steps) (state_of m)
+              may.visit.steady.within n to t (number_below m.transactions.txs n t may.visit.found)
+              (mark_from m.transactions.txs n t may.visit.steady.within.marked may.visit.found));
           few = omega (arith, may.visit.few, ap (λ (s : State). s.steps) same);
           runs = subst (λ (s : State). pos 0 <ℤ s.count) (sym same) may.visit.runs;
           active = active ∙ may.visit.active;
@@ -70,10 +75,12 @@ module _ (v : Visit) (to : ℕ) (m : Configuration) (may : MayTry v to m) where
       }
 
 -- a visit after other draws
-pub visit-drawn : (v : Visit) (m new : Configuration) → IsVisit v m → state_of new ≡ with_streams new.streams (state_of m) → new.active ≡ m.active → Holds new.transactions v.tx → length new.streams ≡ 16 → IsVisit v new
+pub visit-drawn : (v : Visit) (m new : Configuration) → IsVisit v m → state_of new ≡ with_streams new.streams (state_of m) → new.active
+    ≡ m.active → Holds new.transactions v.tx → length new.streams ≡ 16 → IsVisit v new
 visit-drawn v m new is same active held whole = record {
   steady = steady-by v m new (with_streams new.streams (state_of m)) is same refl refl
-      (within-streams (length v.verified.now.blocks) (length m.entities.facilities.values) m.steps (made_in m.steps) (state_of m) is.steady.within new.streams whole);
+      (within-streams (length v.verified.now.blocks) (length m.entities.facilities.values) m.steps (made_in m.steps) (state_of m)
+      is.steady.within new.streams whole);
   few = omega (arith, is.few, ap (λ (s : State). s.steps) same);
   runs = subst (λ (s : State). pos 0 <ℤ s.count) (sym same) is.runs;
   active = active ∙ is.active;
@@ -86,7 +93,8 @@ visit-drawn v m new is same active held whole = record {
 
 -- the transaction turns from m on, and in m1 it is tried whether its next block refuses it
 module _ (v : Visit) (to : ℕ) (m m1 m2 : Configuration) (may : MayTry v to m)
-    (turn : state_of m1 ≡ turn_to v.tx.number v.transaction to (state_of m)) (held : Holds m1.transactions v.tx) (frame : m1 ≡ record m { transactions = m1.transactions })
+    (turn : state_of m1 ≡ turn_to v.tx.number v.transaction to (state_of m)) (held : Holds m1.transactions v.tx)
+    (frame : m1 ≡ record m { transactions = m1.transactions })
     (drawn : m2 ≡ record m1 { streams = m2.streams }) where
   pub made : MayMake (visit_towards to v) m1
   made = made-at v to m may m1 turn (ap (λ (c : Configuration). c.active) frame) (ap (λ (c : Configuration). c.last) frame) held
@@ -102,18 +110,21 @@ module _ (v : Visit) (to : ℕ) (m m1 m2 : Configuration) (may : MayTry v to m)
   last_then = ap (λ (c : Configuration). c.last) drawn ∙ ap (λ (c : Configuration). c.last) frame
 
   -- what a try comes to, by what is known where it has turned
-  tried : (otherwise : State → Outcome State) → tries_at v to otherwise (state_of m) ≡ meets_or (λ streams. otherwise (with_streams streams (state_of m))) (visit_towards to v) (state_of m1)
+  tried : (otherwise : State → Outcome State) → tries_at v to otherwise (state_of m)
+      ≡ meets_or (λ streams. otherwise (with_streams streams (state_of m))) (visit_towards to v) (state_of m1)
   tried otherwise = ap (meets_or (λ streams. otherwise (with_streams streams (state_of m))) (visit_towards to v)) (sym turn)
 
   pub turns : TellsOfNext (Ok false) (visit_towards to v) m1 m2 → TurnsTo (Ok true) v to m m2
   turns h =
       let same : m2 ≡ m1 = drawn ∙ ap (λ (streams : List ℕ). record m1 { streams = streams }) h.1 in (
-        (λ otherwise. tried otherwise ∙ h.0 (λ streams. otherwise (with_streams streams (state_of m))) ∙ ap (λ (c : Configuration). meets_at v to (state_of c)) (sym same)),
+        (λ otherwise. tried otherwise ∙ h.0 (λ streams. otherwise (with_streams streams (state_of m)))
+            ∙ ap (λ (c : Configuration). meets_at v to (state_of c)) (sym same)),
         ((state_then, last_then), subst (MayMake (visit_towards to v)) (sym same) made),
       )
 
   -- it turns back
-  module _ (m3 : Configuration) (back : state_of m3 ≡ turn_to v.tx.number (towards to v.transaction) v.transaction.next (state_of m2)) (kept : m3 ≡ record m2 { transactions = m3.transactions }) where
+  module _ (m3 : Configuration) (back : state_of m3 ≡ turn_to v.tx.number (towards to v.transaction) v.transaction.next (state_of m2))
+      (kept : m3 ≡ record m2 { transactions = m3.transactions }) where
     streams_same : m3.streams ≡ m2.streams
     streams_same = ap (λ (c : Configuration). c.streams) kept
 
@@ -129,7 +140,8 @@ module _ (v : Visit) (to : ℕ) (m m1 m2 : Configuration) (may : MayTry v to m)
     is_refused whole held_then h = (
       (λ otherwise.
           tried otherwise
-          ∙ ap (λ (o : Outcome (Bool × List ℕ)). o >>= (λ answer. if answer.0 then otherwise (with_streams answer.1 (state_of m)) else meets_at v to (state_of m1))) h
+          ∙ ap (λ (o : Outcome (Bool × List ℕ)). o
+          >>= (λ answer. if answer.0 then otherwise (with_streams answer.1 (state_of m)) else meets_at v to (state_of m1))) h
           ∙ ap otherwise (sym state_back)),
       keeps,
       visit-drawn v m m3 may.visit keeps.0
@@ -141,7 +153,8 @@ module _ (v : Visit) (to : ℕ) (m m1 m2 : Configuration) (may : MayTry v to m)
     ends end h = (
       (λ otherwise.
           tried otherwise
-          ∙ ap (λ (o : Outcome (Bool × List ℕ)). o >>= (λ answer. if answer.0 then otherwise (with_streams answer.1 (state_of m)) else meets_at v to (state_of m1))) h.0),
+          ∙ ap (λ (o : Outcome (Bool × List ℕ)). o
+          >>= (λ answer. if answer.0 then otherwise (with_streams answer.1 (state_of m)) else meets_at v to (state_of m1))) h.0),
       keeps,
     )
 

@@ -36,7 +36,8 @@ module _ (v : Visit) (m : Configuration) (may : MayMake v m) where
   pub next_lent : (lent : Option (Bor Block)) → option_copied lent ≡ block_at v.verified.now.blocks v.transaction.next → IsSome lent
   next_lent lent is = is_lent lent (subst IsSome (sym is) next_there)
 
-  pub next_is : (lent : Option (Bor Block)) (block : Bor Block) → option_copied lent ≡ block_at v.verified.now.blocks v.transaction.next → lent ≡ Some block → block_at v.verified.now.blocks v.transaction.next ≡ Some block.now
+  pub next_is : (lent : Option (Bor Block)) (block : Bor Block) → option_copied lent ≡ block_at v.verified.now.blocks v.transaction.next
+      → lent ≡ Some block → block_at v.verified.now.blocks v.transaction.next ≡ Some block.now
   next_is lent block is some = sym is ∙ ap option_copied some
 
   module _ (block : Block) (there : block_at v.verified.now.blocks v.transaction.next ≡ Some block) where
@@ -58,6 +59,7 @@ module _ (v : Visit) (m : Configuration) (may : MayMake v m) where
     }
 
 -- what was made of an outcome was made of one that is the same
-pub makes_same : {E : Type 0} (result : Result Made E) (f g : State → Outcome State) (old new : Configuration) → f (state_of old) ≡ g (state_of old) → MakesOnOk result f old new → MakesOnOk result g old new
+pub makes_same : {E : Type 0} (result : Result Made E) (f g : State → Outcome State) (old new : Configuration) → f (state_of old)
+    ≡ g (state_of old) → MakesOnOk result f old new → MakesOnOk result g old new
 makes_same (Ok made) f g old new same h = (subst (λ o. Makes made o (state_of old) (state_of new)) same h.0, h.1)
 makes_same (Err e) f g old new same h = h

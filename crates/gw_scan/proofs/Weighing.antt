@@ -1,5 +1,6 @@
 -- What a state weighs, summed in memory as it is defined.
-use Rattle.std.proofs.Common.{◌≡◌, ◌≢◌, ◌≤◌, ℕ, zero, suc, ◌+◌, ◌*◌, ℤ, List, [], ◌∷◌, map, length, Option, Some, None, IfSome, Bool, true, false, if◌then◌else◌, ◌==◌, refl, sym, ap, subst, ◌∙◌, arith, inl, inr}
+use Rattle.std.proofs.Common.{◌≡◌, ◌≢◌, ◌≤◌, ℕ, zero, suc, ◌+◌, ◌*◌, ℤ, List, [], ◌∷◌, map, length, Option, Some, None, IfSome, Bool, true, false}
+use Rattle.std.proofs.Common.{if◌then◌else◌, ◌==◌, refl, sym, ap, subst, ◌∙◌, arith, inl, inr}
 use Rattle.std.specs.Prelude.{All, sum, sum_by, slice_index_or, int_lt, ◌&&◌, ◌||◌, is_some, IsPermutation}
 use Rattle.std.specs.List.{list_any}
 use Rattle.std.proofs.lemmas.Bool.{cases_lt, eq-eqb, ne_eqb}
@@ -63,10 +64,12 @@ listed_weight p t = weight_by p t.1 t.0.next (two_next p t.0) t.2
 all_listed : (p : Parts) (txs : List (Option LiveTransaction)) → sum_by (listed_weight p) (listed_transactions txs) ≡ sum_by (weight_in p) txs
 all_listed p [] = refl
 all_listed p (None ∷ txs) = omega (arith, all_listed p txs, sum_by-cons (weight_in p) None txs)
-all_listed p (Some t ∷ txs) = omega (arith, all_listed p txs, sum_by-cons (weight_in p) (Some t) txs, sum_by-cons (listed_weight p) (listed_as t) (listed_transactions txs))
+all_listed p (Some t ∷ txs) =
+    omega (arith, all_listed p txs, sum_by-cons (weight_in p) (Some t) txs, sum_by-cons (listed_weight p) (listed_as t) (listed_transactions txs))
 
 -- in whatever order they are listed, they weigh the same together
-pub all_weigh : (p : Parts) (txs : List (Option LiveTransaction)) (all : List ListedTransaction) → IsPermutation (listed_transactions txs) all → sum_by (listed_weight p) all ≡ sum_by (weight_in p) txs
+pub all_weigh : (p : Parts) (txs : List (Option LiveTransaction)) (all : List ListedTransaction)
+    → IsPermutation (listed_transactions txs) all → sum_by (listed_weight p) all ≡ sum_by (weight_in p) txs
 all_weigh p txs all same = sum_by-IsPermutation (listed_weight p) (listed_transactions txs) all same ∙ all_listed p txs
 
 -- BY NUMBER
@@ -105,7 +108,9 @@ counted_once true x = omega arith
 counted_once false x = omega arith
 
 -- where each number occurs at most once, the sum over the numbers is that over the events
-later_weigh : (f : ℕ → ℕ) (most : ℕ) → ((n : ℕ) → most ≤ n → f n ≡ 0) → (time : ℤ) (es : List FutureEvent) → ((n : ℕ) → occurrences n (numbers es) ≤ 1) → sum (tabulate (part f time es) most) ≡ sum_by (λ (e : FutureEvent). if int_lt time e.time then f e.number else 0) es
+later_weigh : (f : ℕ → ℕ) (most : ℕ) → ((n : ℕ) → most ≤ n → f n ≡ 0) → (time : ℤ) (es : List FutureEvent)
+    → ((n : ℕ) → occurrences n (numbers es) ≤ 1) → sum (tabulate (part f time es) most)
+    ≡ sum_by (λ (e : FutureEvent). if int_lt time e.time then f e.number else 0) es
 later_weigh f most past time [] once = ap sum (tabulate-replicate 0 most) ∙ sum_by-replicate 0 (λ (x : ℕ). x) most refl
 later_weigh f most past time (e ∷ es) once =
     let k = e.number in
@@ -140,7 +145,9 @@ scheduled_once : (s : State) → ResidesOnce s → (n : ℕ) → occurrences n (
 scheduled_once s h n = omega (arith, h n, at_most_one (is_some (at None s.transactions n)))
 
 -- what a state weighs, and those of its transactions that are scheduled for later, is what all of them weigh and what is owed
-pub weight-is : (p : Parts) (s : State) → ResidesOnce s → length s.scheduled ≡ length p.blocks + 1 → weight p s + sum_by (λ (e : FutureEvent). if int_lt s.clock e.time then weight_in p (at None s.transactions e.number) else 0) s.lists.future_events ≡ sum_by (weight_in p) s.transactions + sum (tabulate (owed_weight p s.scheduled) (length s.scheduled))
+pub weight-is : (p : Parts) (s : State) → ResidesOnce s → length s.scheduled ≡ length p.blocks + 1 → weight p s
+    + sum_by (λ (e : FutureEvent). if int_lt s.clock e.time then weight_in p (at None s.transactions e.number) else 0)
+    s.lists.future_events ≡ sum_by (weight_in p) s.transactions + sum (tabulate (owed_weight p s.scheduled) (length s.scheduled))
 unfolding weight
 weight-is p s resides whole =
     let f = λ (n : ℕ). weight_in p (at None s.transactions n) in
@@ -156,7 +163,8 @@ weight-is p s resides whole =
 -- THE SAME OF A MACHINE
 
 -- the sum over a machine's events is that over the state's
-later_events : (p : Parts) (txs : List (Option LiveTransaction)) (time : ℤ) (es : List Event) → sum_by (λ (e : FutureEvent). if int_lt time e.time then weight_in p (at None txs e.number) else 0) (map event_of es) ≡ sum_by (later_weight p txs time) es
+later_events : (p : Parts) (txs : List (Option LiveTransaction)) (time : ℤ) (es : List Event)
+    → sum_by (λ (e : FutureEvent). if int_lt time e.time then weight_in p (at None txs e.number) else 0) (map event_of es) ≡ sum_by (later_weight p txs time) es
 later_events p txs time [] = refl
 later_events p txs time (e ∷ es) =
     omega (
@@ -166,6 +174,8 @@ later_events p txs time (e ∷ es) =
       sum_by-cons (λ (e : FutureEvent). if int_lt time e.time then weight_in p (at None txs e.number) else 0) (event_of e) (map event_of es),
     )
 
-pub machine_weight-is : (p : Parts) (m : Configuration) → ResidesOnce (state_of m) → length m.scheduled ≡ length p.blocks + 1 → weight p (state_of m) + sum_by (later_weight p m.transactions.txs m.clock) m.future_events.items ≡ sum_by (weight_in p) m.transactions.txs + sum (tabulate (owed_weight p m.scheduled) (length m.scheduled))
+pub machine_weight-is : (p : Parts) (m : Configuration) → ResidesOnce (state_of m) → length m.scheduled ≡ length p.blocks + 1
+    → weight p (state_of m) + sum_by (later_weight p m.transactions.txs m.clock) m.future_events.items
+    ≡ sum_by (weight_in p) m.transactions.txs + sum (tabulate (owed_weight p m.scheduled) (length m.scheduled))
 machine_weight-is p m resides whole =
     omega (arith, weight-is p (state_of m) resides whole, later_events p m.transactions.txs m.clock m.future_events.items)

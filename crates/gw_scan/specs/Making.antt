@@ -34,4 +34,5 @@ count_or count own = if count == 0 then own else count
 
 -- the job of an object, with these seeds, this count and this budget
 abbrev pub job_from : Parts → List ℕ → ℕ → ℕ → Job
-job_from parts seeds count budget = record { parts = parts; streams = streams_of (seeds_or seeds parts.seeds); count = count_or count parts.count; budget = budget }
+job_from parts seeds count budget =
+    record { parts = parts; streams = streams_of (seeds_or seeds parts.seeds); count = count_or count parts.count; budget = budget }

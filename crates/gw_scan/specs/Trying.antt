@@ -92,7 +92,8 @@ HasTurned v to old new =
     Becomes (turn_to v.tx.number v.transaction to (with_streams new.streams (state_of old))) old new
     × MayMake (visit_towards to v) new
 
--- the transaction has turned to a block, which it meets then; or is refused by it, and the streams alone have changed; or the evaluation of that ends the job so
+-- the transaction has turned to a block, which it meets then; or is refused by it, and the streams alone have changed;
+-- or the evaluation of that ends the job so
 abbrev pub TurnsTo : Result Bool PlusEnd → Visit → ℕ → Configuration → Configuration → Type 0
 TurnsTo (Ok true) v to old new =
     ((otherwise : State → Outcome State) → tries_at v to otherwise (state_of old) ≡ meets_at v to (state_of new))

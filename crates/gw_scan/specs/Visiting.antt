@@ -18,7 +18,8 @@ use Rattle.gw_machine.specs.Leaving.{BecomesOnOk}
 use Rattle.gw_scan.specs.Makes.{MakesFrom, MakesOnOk}
 use Rattle.gw_scan.specs.declared.visit.Visit.{Visit}
 use Rattle.gw_step.specs.Asks.{Asks, IsServed, Leads, MayLead}
-use Rattle.gw_step.specs.Blocks.{act, admission, assemble_first, assemble_other, assembly_at, hand_over, joined_by_one, led_by, plus, tabulate, then_placed, transfer, unlink_members, until}
+use Rattle.gw_step.specs.Blocks.{act, admission, assemble_first, assemble_other, assembly_at, hand_over, joined_by_one, led_by, plus, tabulate}
+use Rattle.gw_step.specs.Blocks.{then_placed, transfer, unlink_members, until}
 use Rattle.gw_step.specs.Changes.{arrives, assign_to, copies_made, count_down, enter_next, enters_and_falls}
 use Rattle.gw_step.specs.Operands.{MayMeet, MayStep, OperandsFit}
 use Rattle.gw_step.specs.Outcome.{Outcome, Gives}
@@ -215,7 +216,8 @@ with_priority priority v = record v { transaction = record v.transaction { prior
 abbrev pub with_mark : ℤ → Visit → Visit
 with_mark mark v = record v { transaction = record v.transaction { mark = mark } }
 
--- the next arrival at a GENERATE is scheduled for a moment, after draws that left the streams here; and this transaction enters and falls, its mark time being the clock
+-- the next arrival at a GENERATE is scheduled for a moment, after draws that left the streams here; and this
+-- transaction enters and falls, its mark time being the clock
 abbrev pub arrival_with : List ℕ → ℤ → ℤ → Visit → State → State
 arrival_with streams priority moment v s =
     after_fall (with_mark s.clock v) (arrives v.transaction.next priority moment (with_streams streams s))

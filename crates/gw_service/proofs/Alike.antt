@@ -3,7 +3,9 @@ use Rattle.std.proofs.Common.{◌≡◌, ℕ, List, [], ◌∷◌, ◌++◌, Opt
 use Rattle.gw_service.specs.Rows.{Row, rows_of}
 use Rattle.gw_service.specs.Journal.{Service}
 use Rattle.gw_service.specs.Machine.{Call, next, all_next}
-use Rattle.gw_service.specs.Isolation.{Concern, OwnSubmit, OwnPoll, OwnCollect, OwnCancel, OwnTake, OwnReturn, NoConcern, Notice, NoNotice, NewJob, Answer, StaysAlike, concern, notice, is_limited, limit_in, own_notice, own_next, with_concern, with_notice, with_limit, concerns, notices, limits, SameCallSameReply, SameCallsSameReplies, FrontsAreToldFirst}
+use Rattle.gw_service.specs.Isolation.{Concern, OwnSubmit, OwnPoll, OwnCollect, OwnCancel, OwnTake, OwnReturn, NoConcern, Notice, NoNotice, NewJob}
+use Rattle.gw_service.specs.Isolation.{Answer, StaysAlike, concern, notice, is_limited, limit_in, own_notice, own_next, with_concern, with_notice}
+use Rattle.gw_service.specs.Isolation.{with_limit, concerns, notices, limits, SameCallSameReply, SameCallsSameReplies, FrontsAreToldFirst}
 use Rattle.gw_service.proofs.Private.{private, unlimited, limited_stays}
 
 -- ONE CALL
@@ -11,13 +13,16 @@ use Rattle.gw_service.proofs.Private.{private, unlimited, limited_stays}
 limit_is : (told : Notice) (b : Bool) → is_limited told ≡ b → limit_in told ≡ (if b then Some told else None)
 limit_is told b is = ap (λ (b : Bool). if b then Some told else None) is
 
-by_limits : (u : ℕ) (c d : Call) (s t : Service) (a b : Bool) → is_limited (notice u c s) ≡ a → is_limited (notice u d t) ≡ b → rows_of u s.now.rows ≡ rows_of u t.now.rows → concern u c s ≡ concern u d t
+by_limits : (u : ℕ) (c d : Call) (s t : Service) (a b : Bool) → is_limited (notice u c s) ≡ a → is_limited (notice u d t) ≡ b
+    → rows_of u s.now.rows ≡ rows_of u t.now.rows → concern u c s ≡ concern u d t
     → (if a then Some (notice u c s) else None) ≡ (if b then Some (notice u d t) else None) → StaysAlike u c d s t
 by_limits u c d s t false false h g agree same told =
     let p = private u c s h in
     let q = private u d t g in
-    let told : own_notice (concern u c s) (rows_of u s.now.rows) ≡ own_notice (concern u d t) (rows_of u t.now.rows) = ap (λ (x : Concern). own_notice x (rows_of u s.now.rows)) same ∙ ap (own_notice (concern u d t)) agree in
-    let rows : own_next u (concern u c s) (rows_of u s.now.rows) ≡ own_next u (concern u d t) (rows_of u t.now.rows) = ap (λ (x : Concern). own_next u x (rows_of u s.now.rows)) same ∙ ap (own_next u (concern u d t)) agree in
+    let told : own_notice (concern u c s) (rows_of u s.now.rows) ≡ own_notice (concern u d t) (rows_of u t.now.rows) =
+    ap (λ (x : Concern). own_notice x (rows_of u s.now.rows)) same ∙ ap (own_notice (concern u d t)) agree in
+    let rows : own_next u (concern u c s) (rows_of u s.now.rows) ≡ own_next u (concern u d t) (rows_of u t.now.rows) =
+    ap (λ (x : Concern). own_next u x (rows_of u s.now.rows)) same ∙ ap (own_next u (concern u d t)) agree in
     record { notice = p.notice ∙ told ∙ sym q.notice; agree = p.rows ∙ rows ∙ sym q.rows }
 by_limits u c d s t true true h g agree same told =
     let rows = λ (v : Service). rows_of u v.now.rows in
@@ -42,7 +47,8 @@ own_run u (x ∷ xs) (Some told ∷ limits) rows =
     let rest = own_run u xs limits rows in
     (with_notice told rest.0, rest.1)
 
-run-free : (u : ℕ) (x : Concern) (xs : List Concern) (ls : List (Option Notice)) (rows : List Row) → own_run u (x ∷ xs) (None ∷ ls) rows ≡ own_run u (with_concern x xs) (with_limit x None ls) rows
+run-free : (u : ℕ) (x : Concern) (xs : List Concern) (ls : List (Option Notice)) (rows : List Row) → own_run u (x ∷ xs) (None ∷ ls) rows
+    ≡ own_run u (with_concern x xs) (with_limit x None ls) rows
 unfolding own_run
 run-free u (OwnSubmit j) xs ls rows = refl
 run-free u (OwnPoll p j) xs ls rows = refl
@@ -52,7 +58,8 @@ run-free u (OwnTake i) xs ls rows = refl
 run-free u (OwnReturn i n) xs ls rows = refl
 run-free u NoConcern xs ls rows = refl
 
-run-limited : (u : ℕ) (x : Concern) (told : Notice) (xs : List Concern) (ls : List (Option Notice)) (rows : List Row) → (x ≡ NoConcern → ⊥) → own_run u (x ∷ xs) (Some told ∷ ls) rows ≡ own_run u (with_concern x xs) (with_limit x (Some told) ls) rows
+run-limited : (u : ℕ) (x : Concern) (told : Notice) (xs : List Concern) (ls : List (Option Notice)) (rows : List Row) → (x ≡ NoConcern → ⊥)
+    → own_run u (x ∷ xs) (Some told ∷ ls) rows ≡ own_run u (with_concern x xs) (with_limit x (Some told) ls) rows
 unfolding own_run
 run-limited u (OwnSubmit j) told xs ls rows own = refl
 run-limited u (OwnPoll p j) told xs ls rows own = refl
@@ -68,7 +75,8 @@ concerns_user u c s limited none = let never : true ≡ false = sym limited ∙ 
 
 -- one call, and then the others
 run-on : (u : ℕ) (c : Call) (cs : List Call) (s : Service) (b : Bool) → is_limited (notice u c s) ≡ b
-    → (notices u cs (next c s), rows_of u (all_next cs (next c s)).now.rows) ≡ own_run u (concerns u cs (next c s)) (limits u cs (next c s)) (rows_of u (next c s).now.rows)
+    → (notices u cs (next c s), rows_of u (all_next cs (next c s)).now.rows)
+    ≡ own_run u (concerns u cs (next c s)) (limits u cs (next c s)) (rows_of u (next c s).now.rows)
     → (notices u (c ∷ cs) s, rows_of u (all_next (c ∷ cs) s).now.rows) ≡ own_run u (concerns u (c ∷ cs) s) (limits u (c ∷ cs) s) (rows_of u s.now.rows)
 unfolding own_run
 run-on u c cs s false free others =
@@ -90,7 +98,8 @@ run-on u c cs s true limited others =
     ∙ run-limited u x told xs ls (rows_of u s.now.rows) (concerns_user u c s limited)
     ∙ ap (λ (l : Option Notice). own_run u (with_concern x xs) (with_limit x l ls) (rows_of u s.now.rows)) (sym (limit_is told true limited))
 
-run-is : (u : ℕ) (cs : List Call) (s : Service) → (notices u cs s, rows_of u (all_next cs s).now.rows) ≡ own_run u (concerns u cs s) (limits u cs s) (rows_of u s.now.rows)
+run-is : (u : ℕ) (cs : List Call) (s : Service) → (notices u cs s, rows_of u (all_next cs s).now.rows)
+    ≡ own_run u (concerns u cs s) (limits u cs s) (rows_of u s.now.rows)
 unfolding own_run
 run-is u [] s = refl
 run-is u (c ∷ cs) s = run-on u c cs s (is_limited (notice u c s)) refl (run-is u cs (next c s))
@@ -114,4 +123,5 @@ with-front (Answer r) xs ys = refl
 pub fronts_are_told_first : FrontsAreToldFirst
 fronts_are_told_first u [] more s = refl
 fronts_are_told_first u (c ∷ cs) more s =
-    ap (with_notice (notice u c s)) (fronts_are_told_first u cs more (next c s)) ∙ with-front (notice u c s) (notices u cs (next c s)) (notices u more (all_next cs (next c s)))
+    ap (with_notice (notice u c s)) (fronts_are_told_first u cs more (next c s))
+    ∙ with-front (notice u c s) (notices u cs (next c s)) (notices u more (all_next cs (next c s)))

@@ -28,7 +28,8 @@ unfoldable pub map_row : (Row → Row) → Option Row → Option Row
 map_row f None = None
 map_row f (Some r) = Some (f r)
 
-pub get-changed : (k m : ℕ) (f : Row → Row) (rows : List Row) → slice_get (change_row m f rows) k ≡ (if m == k then map_row f (slice_get rows k) else slice_get rows k)
+pub get-changed : (k m : ℕ) (f : Row → Row) (rows : List Row) → slice_get (change_row m f rows) k
+    ≡ (if m == k then map_row f (slice_get rows k) else slice_get rows k)
 unfolding map_row
 get-changed k m f [] = same_choice (m == k) None
 get-changed zero zero f (r ∷ rs) = refl
@@ -53,7 +54,8 @@ length-changed (suc k) f (q ∷ rows) = ap suc (length-changed k f rows)
 
 -- SUMS
 
-pub sum-changed : (g : Row → ℕ) (k : ℕ) (f : Row → Row) (rows : List Row) (r : Row) → slice_get rows k ≡ Some r → sum_by g (change_row k f rows) + g r ≡ sum_by g rows + g (f r)
+pub sum-changed : (g : Row → ℕ) (k : ℕ) (f : Row → Row) (rows : List Row) (r : Row) → slice_get rows k ≡ Some r
+    → sum_by g (change_row k f rows) + g r ≡ sum_by g rows + g (f r)
 sum-changed g k f [] r h = absurd cc
 sum-changed g zero f (q ∷ rows) r h =
     let same : q ≡ r = cc in

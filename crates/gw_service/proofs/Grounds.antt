@@ -9,8 +9,10 @@ use Rattle.gw_service.specs.declared.faults.JobFault.TheVariants as faults
 use Rattle.gw_equality.specs.Jobs.{same_job}
 use Rattle.gw_service.specs.Rows.{Standing, Ready, Out, Ended, Cancelled, CancelledOut, Row, is_out, is_cancellable, returned_row, own_row}
 use Rattle.gw_service.specs.Journal.{Service, Event, Submit, Take, Return, Cancel, with_event}
-use Rattle.gw_service.specs.Calls.{Pass, is_journal_full, admit, submit_fault, standing_fault, own_cancel_fault, journal_limit, cancel_fault, first_fault, take_from, fits_row, receipt_of, receipt_for}
-use Rattle.gw_service.specs.Machine.{Call, Submits, Polls, Collects, Cancels, Takes, GivesBack, event_unless, take_event, return_event, event_of, after_event, next, all_next}
+use Rattle.gw_service.specs.Calls.{Pass, is_journal_full, admit, submit_fault, standing_fault, own_cancel_fault, journal_limit, cancel_fault}
+use Rattle.gw_service.specs.Calls.{first_fault, take_from, fits_row, receipt_of, receipt_for}
+use Rattle.gw_service.specs.Machine.{Call, Submits, Polls, Collects, Cancels, Takes, GivesBack, event_unless, take_event, return_event, event_of}
+use Rattle.gw_service.specs.Machine.{after_event, next, all_next}
 
 -- a list of calls keeps what each call keeps
 pub all_keep : (P : Service → Type 0) → ((c : Call) (s : Service) → P s → P (next c s)) → (cs : List Call) (s : Service) → P s → P (all_next cs s)
@@ -43,7 +45,8 @@ Grounds (Cancel k) s = CancelGrounds k s
 
 -- SUBMIT
 
-submit_grounds : (fault : Option JobFault) (u : ℕ) (j : Job) (s : Service) (e : Event) → submit_fault u s ≡ fault → event_unless fault (Submit u j) ≡ Some e → Grounds e s
+submit_grounds : (fault : Option JobFault) (u : ℕ) (j : Job) (s : Service) (e : Event) → submit_fault u s ≡ fault
+    → event_unless fault (Submit u j) ≡ Some e → Grounds e s
 submit_grounds None u j s e is h =
     let same : Submit u j ≡ e = cc in
     subst (λ (x : Event). Grounds x s) same is
@@ -63,11 +66,13 @@ by_standing Ended limit h = absurd cc
 by_standing Cancelled limit h = absurd cc
 by_standing CancelledOut limit h = absurd cc
 
-by_job : (same : Bool) (r : Row) (limit : Option JobFault) → first_fault (own_cancel_fault (if same then Ok r else Err faults.Stranger)) limit ≡ None → IsCancelled r.standing limit
+by_job : (same : Bool) (r : Row) (limit : Option JobFault)
+    → first_fault (own_cancel_fault (if same then Ok r else Err faults.Stranger)) limit ≡ None → IsCancelled r.standing limit
 by_job true r limit h = by_standing r.standing limit h
 by_job false r limit h = absurd cc
 
-by_user : (own : Bool) (j : Job) (r : Row) (limit : Option JobFault) → first_fault (own_cancel_fault (admit j (if own then Some r else None))) limit ≡ None → IsCancelled r.standing limit
+by_user : (own : Bool) (j : Job) (r : Row) (limit : Option JobFault)
+    → first_fault (own_cancel_fault (admit j (if own then Some r else None))) limit ≡ None → IsCancelled r.standing limit
 by_user true j r limit h = by_job (same_job r.job j) r limit h
 by_user false j r limit h = absurd cc
 
@@ -75,13 +80,15 @@ has_room : (full : Bool) → (if full then Some faults.JournalFull else None) �
 has_room true h = absurd cc
 has_room false h = refl
 
-by_row : (o : Option Row) (p : Pass) (s : Service) → slice_get s.now.rows p.slot ≡ o → first_fault (own_cancel_fault (admit p.job (own_row p.user o))) (journal_limit (is_journal_full 1 s)) ≡ None → CancelGrounds p.slot s
+by_row : (o : Option Row) (p : Pass) (s : Service) → slice_get s.now.rows p.slot ≡ o
+    → first_fault (own_cancel_fault (admit p.job (own_row p.user o))) (journal_limit (is_journal_full 1 s)) ≡ None → CancelGrounds p.slot s
 by_row None p s is h = absurd cc
 by_row (Some r) p s is h =
     let c = by_user (r.user == p.user) p.job r (journal_limit (is_journal_full 1 s)) h in
     record { row = r; here = is; live = c.live; room = has_room (is_journal_full 1 s) c.none }
 
-cancel_grounds : (fault : Option JobFault) (p : Pass) (s : Service) (e : Event) → cancel_fault p s ≡ fault → event_unless fault (Cancel p.slot) ≡ Some e → Grounds e s
+cancel_grounds : (fault : Option JobFault) (p : Pass) (s : Service) (e : Event) → cancel_fault p s ≡ fault
+    → event_unless fault (Cancel p.slot) ≡ Some e → Grounds e s
 cancel_grounds None p s e is h =
     let same : Cancel p.slot ≡ e = cc in
     subst (λ (x : Event). Grounds x s) same (by_row (slice_get s.now.rows p.slot) p s refl is)
@@ -89,7 +96,8 @@ cancel_grounds (Some fault) p s e is h = absurd cc
 
 -- TAKE
 
-take_grounds : (ready : List ℕ) (full : Bool) (s : Service) (e : Event) → s.now.ready ≡ ready → is_journal_full 2 s ≡ full → take_event (take_from ready full) ≡ Some e → Grounds e s
+take_grounds : (ready : List ℕ) (full : Bool) (s : Service) (e : Event) → s.now.ready ≡ ready → is_journal_full 2 s ≡ full
+    → take_event (take_from ready full) ≡ Some e → Grounds e s
 take_grounds [] full s e is room h = absurd cc
 take_grounds (k ∷ ks) true s e is room h = absurd cc
 take_grounds (k ∷ ks) false s e is room h =
@@ -125,11 +133,13 @@ third_true false b c h = absurd cc
 le_true : (m n : ℕ) → nat_le m n ≡ true → m ≤ n
 le_true m n h = grind (arith, nat_tests)
 
-fits_event : (b : Bool) (k n : ℕ) (j : Job) (r : Row) (e : Event) → return_event (if b then Some (receipt_of k (returned_row n r)) else None) ≡ Some e → (b ≡ true) × (Return k n ≡ e)
+fits_event : (b : Bool) (k n : ℕ) (j : Job) (r : Row) (e : Event)
+    → return_event (if b then Some (receipt_of k (returned_row n r)) else None) ≡ Some e → (b ≡ true) × (Return k n ≡ e)
 fits_event true k n j r e h = (refl, cc)
 fits_event false k n j r e h = absurd cc
 
-fits_at : (o : Option Row) (k : ℕ) (j : Job) (n : ℕ) (s : Service) (e : Event) → slice_get s.now.rows k ≡ o → return_event (receipt_for k j n o) ≡ Some e → Fits k j n s e
+fits_at : (o : Option Row) (k : ℕ) (j : Job) (n : ℕ) (s : Service) (e : Event) → slice_get s.now.rows k ≡ o
+    → return_event (receipt_for k j n o) ≡ Some e → Fits k j n s e
 fits_at None k j n s e is h = absurd cc
 fits_at (Some r) k j n s e is h =
     let f = fits_event (fits_row j n r) k n j r e h in

@@ -5,7 +5,8 @@ use Rattle.std.specs.List.{slice_get}
 use Rattle.gw_step.specs.Job.{Job}
 use Rattle.gw_service.specs.declared.faults.JobFault.{JobFault}
 use Rattle.gw_service.specs.Rows.{Row, Jobs, is_cancellable}
-use Rattle.gw_service.specs.Journal.{Service, Event, Submit, Take, Cancel, OfRow, HasState, MayReturn, MayCome, EachMayCome, IsHistory, IsReplayed, SubmitsAccepted, AllSubmitAccepted, apply, no_jobs, replay_from, new_service}
+use Rattle.gw_service.specs.Journal.{Service, Event, Submit, Take, Cancel, OfRow, HasState, MayReturn, MayCome, EachMayCome, IsHistory, IsReplayed}
+use Rattle.gw_service.specs.Journal.{SubmitsAccepted, AllSubmitAccepted, apply, no_jobs, replay_from, new_service}
 use Rattle.gw_service.specs.Calls.{submit_fault, cancel_fault, take_reply}
 use Rattle.gw_service.specs.Machine.{Call, Submits, Polls, Collects, Cancels, Takes, GivesBack, event_of, after_event, next, all_next, event_unless, take_event}
 use Rattle.gw_service.specs.Keeping.{IsSound, AllSound, EventsMayCome, EveryJournalIsHistory}
@@ -23,7 +24,8 @@ submit_comes (Some fault) u j s e is h = absurd cc
 cancel_comes : (fault : Option JobFault) (k : ℕ) (s : Service) (e : Event) → event_unless fault (Cancel k) ≡ Some e → Grounds e s → MayCome e s.now
 cancel_comes None k s e is =
     let same : Cancel k ≡ e = cc in
-    subst (λ (x : Event). Grounds x s → MayCome x s.now) same (λ (g : CancelGrounds k s). subst (λ (o : Option Row). OfRow (λ r. is_cancellable r.standing ≡ true) o) (sym g.here) g.live)
+    subst (λ (x : Event). Grounds x s → MayCome x s.now) same
+    (λ (g : CancelGrounds k s). subst (λ (o : Option Row). OfRow (λ r. is_cancellable r.standing ≡ true) o) (sym g.here) g.live)
 cancel_comes (Some fault) k s e is = absurd cc
 
 take_comes : (t : Result (Option ℕ) JobFault) (s : Service) (e : Event) → take_event t ≡ Some e → Grounds e s → MayCome e s.now
@@ -52,7 +54,8 @@ each-added : (es : List Event) (e : Event) (s : Jobs) → EachMayCome es s → M
 each-added [] e s h m = (m, tt)
 each-added (x ∷ es) e s h m = (h.0, each-added es e (apply x s) h.1 m)
 
-after_history : (o : Option Event) (s : Service) → IsReplayed s → IsHistory s.journal → ((e : Event) → o ≡ Some e → MayCome e s.now) → IsHistory (after_event o s).journal
+after_history : (o : Option Event) (s : Service) → IsReplayed s → IsHistory s.journal → ((e : Event) → o ≡ Some e → MayCome e s.now)
+    → IsHistory (after_event o s).journal
 after_history None s r h m = h
 after_history (Some e) s r h m = each-added s.journal e no_jobs h (subst (λ (l : Jobs). MayCome e l) (sym r) (m e refl))
 

@@ -6,7 +6,8 @@ use Rattle.std.proofs.lemmas.List.{length_push}
 use Rattle.std.proofs.lemmas.Bool.Decides.{nat_tests}
 use Rattle.gw_step.specs.Job.{Job}
 use Rattle.gw_service.specs.declared.faults.JobFault.TheVariants as faults
-use Rattle.gw_service.specs.Rows.{Standing, Ready, Out, Ended, Cancelled, CancelledOut, Row, change_row, new_row, taken_row, returned_row, cancelled_row, standing_back, standing_off, is_out, is_running, rows_of, running_in}
+use Rattle.gw_service.specs.Rows.{Standing, Ready, Out, Ended, Cancelled, CancelledOut, Row, change_row, new_row, taken_row, returned_row}
+use Rattle.gw_service.specs.Rows.{cancelled_row, standing_back, standing_off, is_out, is_running, rows_of, running_in}
 use Rattle.gw_service.specs.Journal.{Service, Event, Submit, Take, Return, Cancel, with_event, new_service}
 use Rattle.gw_service.specs.Calls.{places_of, most_events, most_jobs, most_running, is_journal_full, is_user_full, submit_fault}
 use Rattle.gw_service.specs.Keeping.{ListsReady, IsWithinLimits, NextIsWithinLimits, EveryServiceIsWithinLimits}
@@ -41,7 +42,8 @@ head_le false true x y e h = absurd cc
 head_le false false x y e h = omega arith
 
 -- a change that lets nobody run who didn't lets no more run
-running-changed : (u k : ℕ) (f : Row → Row) (rows : List Row) (r : Row) → slice_get rows k ≡ Some r → (f r).user ≡ r.user → one_if (is_running (f r).standing) ≤ one_if (is_running r.standing)
+running-changed : (u k : ℕ) (f : Row → Row) (rows : List Row) (r : Row) → slice_get rows k ≡ Some r → (f r).user ≡ r.user
+    → one_if (is_running (f r).standing) ≤ one_if (is_running r.standing)
     → running_in (rows_of u (change_row k f rows)) ≤ running_in (rows_of u rows)
 running-changed u k f [] r h user less = absurd cc
 running-changed u zero f (q ∷ rows) r h user less =
@@ -54,7 +56,12 @@ running-changed u zero f (q ∷ rows) r h user less =
       head_le ((f r).user == u) (r.user == u) (one_if (is_running (f r).standing)) (one_if (is_running r.standing)) (ap (λ (v : ℕ). v == u) user) less,
     ))
 running-changed u (suc k) f (q ∷ rows) r h user less =
-    omega (arith, running-changed u k f rows r h user less, running-cons (q.user == u) q (rows_of u (change_row k f rows)), running-cons (q.user == u) q (rows_of u rows))
+    omega (
+      arith,
+      running-changed u k f rows r h user less,
+      running-cons (q.user == u) q (rows_of u (change_row k f rows)),
+      running-cons (q.user == u) q (rows_of u rows),
+    )
 
 off_runs : (t : Standing) → one_if (is_running (standing_off t)) ≤ one_if (is_running t)
 off_runs Ready = omega arith
@@ -74,7 +81,9 @@ record HasRoom (u : ℕ) (s : Service) : Type 0 where
   pub jobs : length s.now.rows + 1 ≤ most_jobs
   pub places : places_of s + 1 ≤ most_events
 
-no_fault : (a b c : Bool) → (if a then Some faults.UserFull else if b then Some faults.ServiceFull else if c then Some faults.JournalFull else None) ≡ None → (a ≡ false) × (b ≡ false) × (c ≡ false)
+no_fault : (a b c : Bool)
+    → (if a then Some faults.UserFull else if b then Some faults.ServiceFull else if c then Some faults.JournalFull else None) ≡ None
+    → (a ≡ false) × (b ≡ false) × (c ≡ false)
 no_fault true b c h = absurd cc
 no_fault false true c h = absurd cc
 no_fault false false true h = absurd cc
@@ -95,7 +104,8 @@ has_room u s h =
       places = at_most most_events (places_of s + 1) free.2;
     }
 
-submit_users : (u v : ℕ) (j : Job) (s : Service) (b : Bool) → (v == u) ≡ b → running_in (rows_of v s.now.rows) + 1 ≤ most_running → running_in (rows_of u s.now.rows) ≤ most_running
+submit_users : (u v : ℕ) (j : Job) (s : Service) (b : Bool) → (v == u) ≡ b → running_in (rows_of v s.now.rows) + 1 ≤ most_running
+    → running_in (rows_of u s.now.rows) ≤ most_running
     → running_in (rows_of u (s.now.rows ++ new_row v j ∷ [])) ≤ most_running
 submit_users u v j s true e room h =
     let same : v ≡ u = are_equal v u e in
@@ -115,7 +125,11 @@ submit_within u j s room h = record {
 take_within : (k : ℕ) (s : Service) → TakeGrounds k s → ReadyRow (slice_get s.now.rows k) → IsWithinLimits s → IsWithinLimits (with_event (Take k) s)
 take_within k s g r h = record {
   jobs = omega (arith, h.jobs, length-changed k taken_row s.now.rows);
-  users = λ u. omega (arith, h.users u, running-changed u k taken_row s.now.rows r.row r.here refl (omega (arith, ap one_if (ready_runs r.row.standing r.ready))));
+  users = λ u. omega (
+    arith,
+    h.users u,
+    running-changed u k taken_row s.now.rows r.row r.here refl (omega (arith, ap one_if (ready_runs r.row.standing r.ready))),
+  );
   places = omega (arith, at_most most_events (places_of s + 2) g.room, length_push s.journal (Take k), take_out k s r);
 }
 
@@ -154,4 +168,5 @@ new_within = record { jobs = omega arith; users = λ u. omega arith; places = om
 
 pub all_within : EveryServiceIsWithinLimits
 all_within cs =
-    (all_keep IsOrderly (λ c s h. record { listed = next_lists_ready c s h.listed; within = next_within c s h.listed h.within }) cs new_service (record { listed = λ k. refl; within = new_within })).within
+    (all_keep IsOrderly (λ c s h. record { listed = next_lists_ready c s h.listed; within = next_within c s h.listed h.within }) cs
+    new_service (record { listed = λ k. refl; within = new_within })).within

@@ -5,7 +5,8 @@ use Rattle.std.specs.List.{slice_get}
 use Rattle.std.proofs.lemmas.Bool.Decides.{nat_tests}
 use Rattle.gw_step.specs.Residence.{occurrences}
 use Rattle.gw_step.specs.Job.{Job}
-use Rattle.gw_service.specs.Rows.{Standing, Ready, Out, Ended, Cancelled, CancelledOut, Row, change_row, new_row, taken_row, returned_row, cancelled_row, standing_off, is_ready, is_out}
+use Rattle.gw_service.specs.Rows.{Standing, Ready, Out, Ended, Cancelled, CancelledOut, Row, change_row, new_row, taken_row, returned_row}
+use Rattle.gw_service.specs.Rows.{cancelled_row, standing_off, is_ready, is_out}
 use Rattle.gw_service.specs.Journal.{Service, Event, Submit, Take, Return, Cancel, ready_without, slot_if_ready, with_event, new_service}
 use Rattle.gw_service.specs.Keeping.{counts_ready, ListsReady, NextListsReady, EveryServiceListsReady}
 use Rattle.gw_service.proofs.Rows.{self_equal, are_equal}
@@ -32,7 +33,9 @@ occurrences-ready : (k m : ℕ) (o : Option Row) → occurrences k (slot_if_read
 occurrences-ready k m None = same_choice (m == k) 0
 occurrences-ready k m (Some r) = occurs-ready-some k m (is_ready r.standing)
 
-left-here : (k m x : ℕ) (b : Bool) (xs : List ℕ) → (x == m) ≡ b → occurrences k (ready_without m xs) ≡ (if m == k then 0 else occurrences k xs) → occurrences k (if not b then x ∷ ready_without m xs else ready_without m xs) ≡ (if m == k then 0 else occurrences k (x ∷ xs))
+left-here : (k m x : ℕ) (b : Bool) (xs : List ℕ) → (x == m) ≡ b → occurrences k (ready_without m xs)
+    ≡ (if m == k then 0 else occurrences k xs) → occurrences k (if not b then x ∷ ready_without m xs else ready_without m xs)
+    ≡ (if m == k then 0 else occurrences k (x ∷ xs))
 left-here k m x true xs e h = grind (arith, nat_tests)
 left-here k m x false xs e h = grind (arith, nat_tests)
 
@@ -104,9 +107,11 @@ taken_ready k s h g =
 
 -- EVENTS
 
-add_case : (b : Bool) (k n : ℕ) (rows : List Row) (r : Row) → (length rows == k) ≡ b → n ≡ counts_ready (slice_get rows k) → n + (if b then counts_ready (Some r) else 0) ≡ counts_ready (if b then Some r else slice_get rows k)
+add_case : (b : Bool) (k n : ℕ) (rows : List Row) (r : Row) → (length rows == k) ≡ b → n ≡ counts_ready (slice_get rows k) → n
+    + (if b then counts_ready (Some r) else 0) ≡ counts_ready (if b then Some r else slice_get rows k)
 add_case true k n rows r e h =
-    let past : counts_ready (slice_get rows k) ≡ 0 = subst (λ (i : ℕ). counts_ready (slice_get rows i) ≡ 0) (are_equal (length rows) k e) (ap counts_ready (get-past rows)) in
+    let past : counts_ready (slice_get rows k) ≡ 0 =
+    subst (λ (i : ℕ). counts_ready (slice_get rows i) ≡ 0) (are_equal (length rows) k e) (ap counts_ready (get-past rows)) in
     omega (arith, h, past)
 add_case false k n rows r e h = omega (arith, h)
 
@@ -137,13 +142,16 @@ cancel_lists k s h i =
     ∙ sym (ap counts_ready (get-changed i k cancelled_row s.now.rows))
 
 return_case : (k n i : ℕ) (s : Service) (b : Bool) → (k == i) ≡ b → ListsReady s.now → counts_ready (slice_get s.now.rows k) ≡ 0
-    → occurrences i s.now.ready + (if b then counts_ready (slice_get (change_row k (returned_row n) s.now.rows) k) else 0) ≡ counts_ready (slice_get (change_row k (returned_row n) s.now.rows) i)
+    → occurrences i s.now.ready + (if b then counts_ready (slice_get (change_row k (returned_row n) s.now.rows) k) else 0)
+    ≡ counts_ready (slice_get (change_row k (returned_row n) s.now.rows) i)
 return_case k n i s true e h out =
     let same : k ≡ i = are_equal k i e in
-    subst (λ (x : ℕ). occurrences x s.now.ready + counts_ready (slice_get (change_row k (returned_row n) s.now.rows) k) ≡ counts_ready (slice_get (change_row k (returned_row n) s.now.rows) x)) same (omega (arith, h k, out))
+    subst (λ (x : ℕ). occurrences x s.now.ready + counts_ready (slice_get (change_row k (returned_row n) s.now.rows) k)
+    ≡ counts_ready (slice_get (change_row k (returned_row n) s.now.rows) x)) same (omega (arith, h k, out))
 return_case k n i s false e h out =
     let kept : slice_get (change_row k (returned_row n) s.now.rows) i ≡ slice_get s.now.rows i =
-    get-changed i k (returned_row n) s.now.rows ∙ ap (λ (b : Bool). if b then map_row (returned_row n) (slice_get s.now.rows i) else slice_get s.now.rows i) e in
+    get-changed i k (returned_row n) s.now.rows
+    ∙ ap (λ (b : Bool). if b then map_row (returned_row n) (slice_get s.now.rows i) else slice_get s.now.rows i) e in
     omega (arith, h i, ap counts_ready kept)
 
 pub return_lists : (k n : ℕ) (s : Service) → ListsReady s.now → counts_ready (slice_get s.now.rows k) ≡ 0 → ListsReady (with_event (Return k n) s).now

@@ -17,6 +17,8 @@ next_cancel p s h = ap (λ (fault : Option JobFault). after_event (event_unless 
 pub next_take : (k : ℕ) (s : Service) → take_reply s ≡ Ok (Some k) → next Takes s ≡ with_event (Take k) s
 next_take k s h = ap (λ (r : Result (Option ℕ) JobFault). after_event (take_event r) s) h
 
-pub next_give_back : (k : ℕ) (j : Job) (n : ℕ) (s : Service) (x : Receipt) → give_back_reply k j n s ≡ Some x → next (GivesBack k j n) s ≡ with_event (Return k n) s
+pub next_give_back : (k : ℕ) (j : Job) (n : ℕ) (s : Service) (x : Receipt) → give_back_reply k j n s ≡ Some x → next (GivesBack k j n) s
+    ≡ with_event (Return k n) s
 next_give_back k j n s x h =
-    ap (λ (o : Option Receipt). after_event (return_event o) s) h ∙ ap (λ (e : Event). with_event e s) (sym (fits k j n s (Return x.slot x.steps) (ap return_event h)).event)
+    ap (λ (o : Option Receipt). after_event (return_event o) s) h
+    ∙ ap (λ (e : Event). with_event e s) (sym (fits k j n s (Return x.slot x.steps) (ap return_event h)).event)

@@ -3,7 +3,8 @@ use Rattle.std.proofs.Common.{◌≡◌, ℕ, zero, suc, List, [], ◌∷◌, �
 use Rattle.std.specs.Prelude.{if◌then◌else◌}
 use Rattle.std.specs.List.{slice_get}
 use Rattle.gw_step.specs.Job.{Job}
-use Rattle.gw_service.specs.Rows.{Standing, Ready, Out, Ended, Cancelled, CancelledOut, Row, change_row, new_row, taken_row, returned_row, cancelled_row, standing_back, standing_off, is_ready, is_over}
+use Rattle.gw_service.specs.Rows.{Standing, Ready, Out, Ended, Cancelled, CancelledOut, Row, change_row, new_row, taken_row, returned_row}
+use Rattle.gw_service.specs.Rows.{cancelled_row, standing_back, standing_off, is_ready, is_over}
 use Rattle.gw_service.specs.Journal.{Service, Event, Submit, Take, Return, Cancel, OfRow, HasState, MayReturn, MayCome, with_event, new_service}
 use Rattle.gw_service.specs.Machine.{Call, event_of, after_event, next, all_next}
 use Rattle.gw_service.specs.Keeping.{ListsReady, MayStand, IsReachedRow, AreReached, AllSound, NextIsReached, EveryServiceIsReached}
@@ -13,7 +14,8 @@ use Rattle.gw_service.proofs.History.{events_may_come}
 
 -- ROWS
 
-reached-changed : (k : ℕ) (f : Row → Row) (rows : List Row) → ((r : Row) → slice_get rows k ≡ Some r → IsReachedRow r → IsReachedRow (f r)) → AreReached rows → AreReached (change_row k f rows)
+reached-changed : (k : ℕ) (f : Row → Row) (rows : List Row) → ((r : Row) → slice_get rows k ≡ Some r → IsReachedRow r → IsReachedRow (f r))
+    → AreReached rows → AreReached (change_row k f rows)
 reached-changed k f [] keeps h = h
 reached-changed zero f (q ∷ rows) keeps h = (keeps q refl h.0, h.1)
 reached-changed (suc k) f (q ∷ rows) keeps h = (h.0, reached-changed k f rows keeps h.1)
@@ -76,12 +78,14 @@ event_reached s l h (Submit u j) g m = reached-added s.now.rows (new_row u j) (n
 event_reached s l h (Take k) g m =
     let r = taken_ready k s l g in
     reached-changed k taken_row s.now.rows (λ q is reached. taken_reached q (here_ready (slice_get s.now.rows k) r.row q r.here is r.ready) reached) h
-event_reached s l h (Return k n) g m = reached-changed k (returned_row n) s.now.rows (λ q is reached. returned_reached n q (here_returns (slice_get s.now.rows k) q n is m)) h
+event_reached s l h (Return k n) g m =
+    reached-changed k (returned_row n) s.now.rows (λ q is reached. returned_reached n q (here_returns (slice_get s.now.rows k) q n is m)) h
 event_reached s l h (Cancel k) g m = reached-changed k cancelled_row s.now.rows (λ q is reached. cancelled_reached q reached) h
 
 -- CALLS
 
-call_reached : (o : Option Event) (s : Service) → AreReached s.now.rows → ((e : Event) → o ≡ Some e → AreReached (with_event e s).now.rows) → AreReached (after_event o s).now.rows
+call_reached : (o : Option Event) (s : Service) → AreReached s.now.rows → ((e : Event) → o ≡ Some e → AreReached (with_event e s).now.rows)
+    → AreReached (after_event o s).now.rows
 call_reached None s h f = h
 call_reached (Some e) s h f = f e refl
 

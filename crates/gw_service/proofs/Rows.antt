@@ -38,7 +38,8 @@ own-place u (suc k) (r ∷ rs) = own-place u k rs ∙ own-later (r.user == u) (u
 
 -- A CHANGED ROW
 
-changed-here : (b : Bool) (f : Row → Row) (r : Row) (rs : List Row) → (if b then f r ∷ rs else rs) ≡ change_at (if b then Some 0 else None) f (if b then r ∷ rs else rs)
+changed-here : (b : Bool) (f : Row → Row) (r : Row) (rs : List Row) → (if b then f r ∷ rs else rs)
+    ≡ change_at (if b then Some 0 else None) f (if b then r ∷ rs else rs)
 changed-here true f r rs = refl
 changed-here false f r rs = refl
 
@@ -46,15 +47,20 @@ changed_next : (p : Option ℕ) (f : Row → Row) (r : Row) (rs : List Row) → 
 changed_next None f r rs = refl
 changed_next (Some i) f r rs = refl
 
-changed-later : (b : Bool) (p : Option ℕ) (f : Row → Row) (r : Row) (rs : List Row) → (if b then r ∷ change_at p f rs else change_at p f rs) ≡ change_at (if b then next_place p else p) f (if b then r ∷ rs else rs)
+changed-later : (b : Bool) (p : Option ℕ) (f : Row → Row) (r : Row) (rs : List Row)
+    → (if b then r ∷ change_at p f rs else change_at p f rs) ≡ change_at (if b then next_place p else p) f (if b then r ∷ rs else rs)
 changed-later true p f r rs = sym (changed_next p f r rs)
 changed-later false p f r rs = refl
 
 -- the rows of a user, after one row changed: the one at its place did, if it is the user's
-pub rows-changed : (u k : ℕ) (f : Row → Row) (rows : List Row) → ((r : Row) → (f r).user ≡ r.user) → rows_of u (change_row k f rows) ≡ change_at (user_place u k rows) f (rows_of u rows)
+pub rows-changed : (u k : ℕ) (f : Row → Row) (rows : List Row) → ((r : Row) → (f r).user ≡ r.user) → rows_of u (change_row k f rows)
+    ≡ change_at (user_place u k rows) f (rows_of u rows)
 rows-changed u k f [] h = refl
-rows-changed u zero f (r ∷ rs) h = subst (λ v. (if v == u then f r ∷ rows_of u rs else rows_of u rs) ≡ change_at (if r.user == u then Some 0 else None) f (rows_of u (r ∷ rs))) (sym (h r)) (changed-here (r.user == u) f r (rows_of u rs))
-rows-changed u (suc k) f (r ∷ rs) h = ap (λ xs. if r.user == u then r ∷ xs else xs) (rows-changed u k f rs h) ∙ changed-later (r.user == u) (user_place u k rs) f r (rows_of u rs)
+rows-changed u zero f (r ∷ rs) h =
+    subst (λ v. (if v == u then f r ∷ rows_of u rs else rows_of u rs)
+    ≡ change_at (if r.user == u then Some 0 else None) f (rows_of u (r ∷ rs))) (sym (h r)) (changed-here (r.user == u) f r (rows_of u rs))
+rows-changed u (suc k) f (r ∷ rs) h = ap (λ xs. if r.user == u then r ∷ xs else xs) (rows-changed u k f rs h)
+    ∙ changed-later (r.user == u) (user_place u k rs) f r (rows_of u rs)
 
 -- A ROW OF ANOTHER USER
 
@@ -94,4 +100,5 @@ pub rows-added : (u : ℕ) (rows : List Row) (r : Row) → (r.user == u) ≡ tru
 rows-added u rows r h = filter-append (λ (x : Row). x.user == u) rows (r ∷ []) ∙ ap (λ ys. rows_of u rows ++ ys) (added-mine u r h)
 
 pub rows-others : (u : ℕ) (rows : List Row) (r : Row) → (r.user == u) ≡ false → rows_of u (rows ++ r ∷ []) ≡ rows_of u rows
-rows-others u rows r h = filter-append (λ (x : Row). x.user == u) rows (r ∷ []) ∙ ap (λ ys. rows_of u rows ++ ys) (added-others u r h) ∙ append-nothing (rows_of u rows)
+rows-others u rows r h = filter-append (λ (x : Row). x.user == u) rows (r ∷ []) ∙ ap (λ ys. rows_of u rows ++ ys) (added-others u r h)
+    ∙ append-nothing (rows_of u rows)

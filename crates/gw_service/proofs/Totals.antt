@@ -3,7 +3,8 @@ use Rattle.std.proofs.Common.{◌≡◌, ℕ, ◌+◌, ◌≤◌, List, [], ◌�
 use Rattle.std.specs.Prelude.{if◌then◌else◌}
 use Rattle.std.specs.List.{slice_get}
 use Rattle.gw_step.specs.Job.{Job}
-use Rattle.gw_service.specs.Rows.{Standing, Ready, Out, Ended, Cancelled, CancelledOut, Row, change_row, new_row, taken_row, returned_row, cancelled_row, standing_back, standing_off, is_ready, is_out, is_over, out_of, steps_of}
+use Rattle.gw_service.specs.Rows.{Standing, Ready, Out, Ended, Cancelled, CancelledOut, Row, change_row, new_row, taken_row, returned_row}
+use Rattle.gw_service.specs.Rows.{cancelled_row, standing_back, standing_off, is_ready, is_out, is_over, out_of, steps_of}
 use Rattle.gw_service.specs.Journal.{Service, Event, Submit, Take, Return, Cancel, with_event}
 use Rattle.gw_service.specs.Machine.{event_of, after_event}
 use Rattle.gw_service.specs.Keeping.{ListsReady, rows_sent, rows_back, steps_sent, steps_back, steps_in, OutFollowsCalls, StepsFollowReturns, StepsNeverFall}
@@ -61,13 +62,15 @@ return_out k n s g =
 pub cancel_out : (k : ℕ) (rows : List Row) → out_of (change_row k cancelled_row rows) ≡ out_of rows
 cancel_out k rows = sum-kept counts_out k cancelled_row rows (λ r. off_same r.standing)
 
-event_out : (s : Service) → ListsReady s.now → (e : Event) → Grounds e s → out_of (with_event e s).now.rows + rows_back (Some e) ≡ out_of s.now.rows + rows_sent (Some e)
+event_out : (s : Service) → ListsReady s.now → (e : Event) → Grounds e s → out_of (with_event e s).now.rows + rows_back (Some e)
+    ≡ out_of s.now.rows + rows_sent (Some e)
 event_out s h (Submit u j) g = omega (arith, submit_out u j s.now.rows)
 event_out s h (Take k) g = omega (arith, take_out k s (taken_ready k s h g))
 event_out s h (Return k n) g = omega (arith, return_out k n s g)
 event_out s h (Cancel k) g = omega (arith, cancel_out k s.now.rows)
 
-call_out : (o : Option Event) (s : Service) → ListsReady s.now → ((e : Event) → o ≡ Some e → Grounds e s) → out_of (after_event o s).now.rows + rows_back o ≡ out_of s.now.rows + rows_sent o
+call_out : (o : Option Event) (s : Service) → ListsReady s.now → ((e : Event) → o ≡ Some e → Grounds e s)
+    → out_of (after_event o s).now.rows + rows_back o ≡ out_of s.now.rows + rows_sent o
 call_out None s h g = refl
 call_out (Some e) s h g = event_out s h e (g e refl)
 
@@ -88,16 +91,19 @@ take_steps k rows = sum-kept steps_by k taken_row rows (λ r. refl)
 pub cancel_steps : (k : ℕ) (rows : List Row) → steps_of (change_row k cancelled_row rows) ≡ steps_of rows
 cancel_steps k rows = sum-kept steps_by k cancelled_row rows (λ r. refl)
 
-pub return_steps : (k n : ℕ) (s : Service) → ReturnGrounds k n s → steps_of (change_row k (returned_row n) s.now.rows) + steps_in (slice_get s.now.rows k) ≡ steps_of s.now.rows + n
+pub return_steps : (k n : ℕ) (s : Service) → ReturnGrounds k n s → steps_of (change_row k (returned_row n) s.now.rows)
+    + steps_in (slice_get s.now.rows k) ≡ steps_of s.now.rows + n
 return_steps k n s g = omega (arith, sum-changed steps_by k (returned_row n) s.now.rows g.row g.here, ap steps_in g.here)
 
-event_steps : (s : Service) (e : Event) → Grounds e s → steps_of (with_event e s).now.rows + steps_sent (Some e) s.now.rows ≡ steps_of s.now.rows + steps_back (Some e)
+event_steps : (s : Service) (e : Event) → Grounds e s → steps_of (with_event e s).now.rows + steps_sent (Some e) s.now.rows
+    ≡ steps_of s.now.rows + steps_back (Some e)
 event_steps s (Submit u j) g = omega (arith, submit_steps u j s.now.rows)
 event_steps s (Take k) g = omega (arith, take_steps k s.now.rows)
 event_steps s (Return k n) g = return_steps k n s g
 event_steps s (Cancel k) g = omega (arith, cancel_steps k s.now.rows)
 
-call_steps : (o : Option Event) (s : Service) → ((e : Event) → o ≡ Some e → Grounds e s) → steps_of (after_event o s).now.rows + steps_sent o s.now.rows ≡ steps_of s.now.rows + steps_back o
+call_steps : (o : Option Event) (s : Service) → ((e : Event) → o ≡ Some e → Grounds e s) → steps_of (after_event o s).now.rows
+    + steps_sent o s.now.rows ≡ steps_of s.now.rows + steps_back o
 call_steps None s g = refl
 call_steps (Some e) s g = event_steps s e (g e refl)
 

@@ -1,4 +1,5 @@
--- The calls of a service: what each answers, with its refusals in their order. Want of memory is no answer here: it may come where there is no other refusal, and leaves the service as it was.
+-- The calls of a service: what each answers, with its refusals in their order. Want of memory is no answer here: it may
+-- come where there is no other refusal, and leaves the service as it was.
 use Rattle.std.specs.Prelude.{◌≡◌, ℕ, ◌+◌, ◌^◌, List, [], ◌∷◌, length, Option, Some, None, Result, Ok, Err, Bool, nat_le, nat_lt, ◌&&◌, if◌then◌else◌}
 use Rattle.std.specs.List.{slice_get}
 use Rattle.gw_step.specs.Job.{Job}
@@ -8,7 +9,8 @@ use Rattle.gw_service.specs.declared.progress.State.{State}
 use Rattle.gw_service.specs.declared.progress.State.TheVariants as states
 use Rattle.gw_service.specs.declared.progress.Progress.{Progress}
 use Rattle.gw_equality.specs.Jobs.{same_job}
-use Rattle.gw_service.specs.Rows.{Standing, Ready, Out, Ended, Cancelled, CancelledOut, Row, is_out, is_ended, is_cancelled, returned_row, rows_of, running_in, own_row, out_of}
+use Rattle.gw_service.specs.Rows.{Standing, Ready, Out, Ended, Cancelled, CancelledOut, Row, is_out, is_ended, is_cancelled, returned_row, rows_of}
+use Rattle.gw_service.specs.Rows.{running_in, own_row, out_of}
 use Rattle.gw_service.specs.Journal.{Service}
 
 -- LIMITS

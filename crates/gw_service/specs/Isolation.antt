@@ -7,7 +7,8 @@ use Rattle.gw_service.specs.declared.faults.JobFault.TheVariants as faults
 use Rattle.gw_service.specs.Rows.{Row, change_row, new_row, taken_row, returned_row, cancelled_row, rows_of, user_place}
 use Rattle.gw_service.specs.Journal.{Service}
 use Rattle.gw_service.specs.Calls.{Receipt, admit, progress_of, ended_row, own_cancel_fault, is_user_full, take_reply, give_back_reply}
-use Rattle.gw_service.specs.Machine.{Call, Submits, Polls, Collects, Cancels, Takes, GivesBack, Reply, Refusal, SlotReply, ProgressReply, RowReply, Assent, TaskReply, ReceiptReply, tell_progress, tell_row, unless, reply, next, all_next}
+use Rattle.gw_service.specs.Machine.{Call, Submits, Polls, Collects, Cancels, Takes, GivesBack, Reply, Refusal, SlotReply, ProgressReply, RowReply}
+use Rattle.gw_service.specs.Machine.{Assent, TaskReply, ReceiptReply, tell_progress, tell_row, unless, reply, next, all_next}
 
 -- two services agree for a user: the user's rows are equal, slots left out
 abbrev pub AgreeFor : ℕ → Service → Service → Type 0
@@ -170,7 +171,8 @@ pub record StaysAlike (u : ℕ) (c d : Call) (s t : Service) : Type 0 where
 
 -- where two services agree for a user, the same call gets the same reply and leaves them agreeing, unless what all users share refuses it of one of them alone
 abbrev pub SameCallSameReply : Type 0
-SameCallSameReply = (u : ℕ) (c d : Call) (s t : Service) → AgreeFor u s t → concern u c s ≡ concern u d t → limit_in (notice u c s) ≡ limit_in (notice u d t) → StaysAlike u c d s t
+SameCallSameReply = (u : ℕ) (c d : Call) (s t : Service) → AgreeFor u s t → concern u c s ≡ concern u d t → limit_in (notice u c s)
+    ≡ limit_in (notice u d t) → StaysAlike u c d s t
 
 -- LISTS OF CALLS
 
@@ -220,10 +222,14 @@ pub record AllAlike (u : ℕ) (cs ds : List Call) (s t : Service) : Type 0 where
   pub notices : notices u cs s ≡ notices u ds t
   pub agree : AgreeFor u (all_next cs s) (all_next ds t)
 
--- the same of lists of calls, whatever calls of others come between, where the user's rows are taken and returned alike, and what all share refuses the same calls. Where it refuses another one, the law speaks of the lists up to there
+-- the same of lists of calls, whatever calls of others come between, where the user's rows are taken and returned
+-- alike, and what all share refuses the same calls. Where it refuses another one, the law speaks of the lists up to
+-- there
 abbrev pub SameCallsSameReplies : Type 0
-SameCallsSameReplies = (u : ℕ) (cs ds : List Call) (s t : Service) → AgreeFor u s t → concerns u cs s ≡ concerns u ds t → limits u cs s ≡ limits u ds t → AllAlike u cs ds s t
+SameCallsSameReplies = (u : ℕ) (cs ds : List Call) (s t : Service) → AgreeFor u s t → concerns u cs s ≡ concerns u ds t → limits u cs s
+    ≡ limits u ds t → AllAlike u cs ds s t
 
--- what a user is told of a list of calls begins with what is told of its front: so the law speaks of all that comes before a refusal that only one side meets, whatever comes behind it
+-- what a user is told of a list of calls begins with what is told of its front: so the law speaks of all that comes
+-- before a refusal that only one side meets, whatever comes behind it
 abbrev pub FrontsAreToldFirst : Type 0
 FrontsAreToldFirst = (u : ℕ) (cs more : List Call) (s : Service) → notices u (cs ++ more) s ≡ notices u cs s ++ notices u more (all_next cs s)

@@ -91,7 +91,8 @@ pub record MayReturn (n : ℕ) (r : Row) : Type 0 where
   pub most : n ≤ 2 ^ 40
   pub reached : HasState r.job n
 
--- an event may come: a submit of a job that has a start, a take of the first slot that is ready, a return of a row that may come back, a cancel of a row that is ready or out and wasn't cancelled
+-- an event may come: a submit of a job that has a start, a take of the first slot that is ready, a return of a row that
+-- may come back, a cancel of a row that is ready or out and wasn't cancelled
 abbrev pub MayCome : Event → Jobs → Type 0
 MayCome (Submit u j) s = HasState j 0
 MayCome (Take k) s = slice_get s.ready 0 ≡ Some k

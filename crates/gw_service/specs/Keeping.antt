@@ -1,11 +1,13 @@
--- What each call keeps: the journal replays, the ready list lists what is ready, limits are kept, totals are right, and each row's steps are those of its job's lone run.
+-- What each call keeps: the journal replays, the ready list lists what is ready, limits are kept, totals are right, and
+-- each row's steps are those of its job's lone run.
 use Rattle.std.specs.Prelude.{◌≡◌, ℕ, ◌+◌, ◌≤◌, ◌^◌, List, [], ◌∷◌, length, Option, Some, None, Ok, Bool, true, false, ◌||◌, if◌then◌else◌}
 use Rattle.std.specs.List.{slice_get}
 use Rattle.gw_step.specs.Residence.{occurrences}
 use Rattle.gw_step.specs.Job.{Job}
 use Rattle.gw_service.specs.declared.faults.JobFault.{JobFault}
 use Rattle.gw_equality.specs.Jobs.{same_job}
-use Rattle.gw_service.specs.Rows.{Standing, Ready, Out, Ended, Cancelled, CancelledOut, Row, Jobs, is_ready, is_ended, is_cancelled, is_over, rows_of, running_in, out_of, steps_of}
+use Rattle.gw_service.specs.Rows.{Standing, Ready, Out, Ended, Cancelled, CancelledOut, Row, Jobs, is_ready, is_ended, is_cancelled, is_over, rows_of}
+use Rattle.gw_service.specs.Rows.{running_in, out_of, steps_of}
 use Rattle.gw_service.specs.Journal.{Event, Submit, Take, Return, Cancel, Service, new_service, IsReplayed, OfRow, HasState, MayCome, IsHistory}
 use Rattle.gw_service.specs.Calls.{Pass, row_for, places_of, most_jobs, most_running, most_events}
 use Rattle.gw_service.specs.Machine.{Call, Submits, Polls, Collects, Cancels, Takes, GivesBack, Refusal, reply, event_of, next, all_next}
@@ -87,11 +89,13 @@ steps_sent (Some (Cancel k)) rows = 0
 
 -- a take raises the rows that are out by one, a return lowers them by one, and no other call changes how many they are
 abbrev pub OutFollowsCalls : Type 0
-OutFollowsCalls = (c : Call) (s : Service) → ListsReady s.now → out_of (next c s).now.rows + rows_back (event_of c s) ≡ out_of s.now.rows + rows_sent (event_of c s)
+OutFollowsCalls = (c : Call) (s : Service) → ListsReady s.now → out_of (next c s).now.rows + rows_back (event_of c s) ≡ out_of s.now.rows
+    + rows_sent (event_of c s)
 
 -- a return adds the steps that were made since the take, and no other call changes the steps given back
 abbrev pub StepsFollowReturns : Type 0
-StepsFollowReturns = (c : Call) (s : Service) → steps_of (next c s).now.rows + steps_sent (event_of c s) s.now.rows ≡ steps_of s.now.rows + steps_back (event_of c s)
+StepsFollowReturns = (c : Call) (s : Service) → steps_of (next c s).now.rows + steps_sent (event_of c s) s.now.rows ≡ steps_of s.now.rows
+    + steps_back (event_of c s)
 
 -- the steps given back never fall
 abbrev pub StepsNeverFall : Type 0
@@ -199,4 +203,5 @@ pub record IsLater (r q : Row) : Type 0 where
 
 -- a slot stays its job's
 abbrev pub SlotsAreKept : Type 0
-SlotsAreKept = (c : Call) (s : Service) (k : ℕ) (r : Row) → ListsReady s.now → slice_get s.now.rows k ≡ Some r → OfRow (IsLater r) (slice_get (next c s).now.rows k)
+SlotsAreKept = (c : Call) (s : Service) (k : ℕ) (r : Row) → ListsReady s.now → slice_get s.now.rows k ≡ Some r
+    → OfRow (IsLater r) (slice_get (next c s).now.rows k)

@@ -1,5 +1,6 @@
 -- Rows that say the same are the same, since their lists ascend.
-use Rattle.std.proofs.Common.{◌≡◌, ◌≢◌, ⊎_elim, ℕ, ◌<◌, List, [], ◌∷◌, map, get_or, Option, Some, None, Bool, true, false, ◌||◌, if◌then◌else◌, refl, sym, ap, ap₂, subst, ◌∙◌, arith}
+use Rattle.std.proofs.Common.{◌≡◌, ◌≢◌, ⊎_elim, ℕ, ◌<◌, List, [], ◌∷◌, map, get_or, Option, Some, None, Bool, true, false, ◌||◌, if◌then◌else◌, refl}
+use Rattle.std.proofs.Common.{sym, ap, ap₂, subst, ◌∙◌, arith}
 use Rattle.std.specs.Prelude.{All, AllPairs, IsTrue}
 use Rattle.std.specs.List.{list_all}
 use Rattle.std.proofs.lemmas.Bool.{cases_eq, cases_order, eq-eqb, ne_eqb, false≢true}
@@ -39,7 +40,8 @@ not_before : (x : ℕ × ℕ) (xs ys : List (ℕ × ℕ)) → x.1 ≢ 0 → All 
 not_before x xs ys some over same = some (sym (first_amount x xs) ∙ same ∙ none_below ys x.0 over)
 
 all_over : (n : ℕ) (y : ℕ × ℕ) (ys : List (ℕ × ℕ)) → n < y.0 → Ascend (y ∷ ys) → All (λ e. n < e.0) (y ∷ ys)
-all_over n y ys lt up = All-cons (λ e. n < e.0) y ys lt (All-weaker (λ e. y.0 < e.0) (λ e. n < e.0) (λ e more. omega (arith, lt, more)) ys (AllPairs-head (λ a b. a.0 < b.0) y ys up))
+all_over n y ys lt up = All-cons (λ e. n < e.0) y ys lt
+    (All-weaker (λ e. y.0 < e.0) (λ e. n < e.0) (λ e more. omega (arith, lt, more)) ys (AllPairs-head (λ a b. a.0 < b.0) y ys up))
 
 -- amounts that are read the same are the same
 pub amounts_same : (xs ys : List (ℕ × ℕ)) → Ascend xs → Ascend ys → NoneIs0 xs → NoneIs0 ys → ((n : ℕ) → amount_of xs n ≡ amount_of ys n) → xs ≡ ys
@@ -57,7 +59,9 @@ amounts_same (x ∷ xs) (y ∷ ys) ux uy nx ny h =
     ∙ sym (none_below ys n (subst (λ m. All (λ z. m < z.0) ys) (sym q ∙ e) (AllPairs-head (λ a b. a.0 < b.0) y ys uy))))
     (λ (ne : x.0 ≢ n). sym (later_amount x xs n ne) ∙ h n ∙ later_amount y ys n (λ z. ne (q ∙ z)))
     (cases_eq x.0 n) in
-    ap₂ (λ a bs. a ∷ bs) first (amounts_same xs ys (AllPairs-tail (λ a b. a.0 < b.0) x xs ux) (AllPairs-tail (λ a b. a.0 < b.0) y ys uy) (All-tail (λ e. e.1 ≢ 0) x xs nx) (All-tail (λ e. e.1 ≢ 0) y ys ny) rest))
+    ap₂ (λ a bs. a ∷ bs) first
+    (amounts_same xs ys (AllPairs-tail (λ a b. a.0 < b.0) x xs ux) (AllPairs-tail (λ a b. a.0 < b.0) y ys uy)
+    (All-tail (λ e. e.1 ≢ 0) x xs nx) (All-tail (λ e. e.1 ≢ 0) y ys ny) rest))
     (⊎_elim
     (λ (lt : x.0 < y.0). absurd (not_before x xs (y ∷ ys) (All-head (λ e. e.1 ≢ 0) x xs nx) (all_over x.0 y ys lt uy) (h x.0)))
     (λ (gt : y.0 < x.0). absurd (not_before y ys (x ∷ xs) (All-head (λ e. e.1 ≢ 0) y ys ny) (all_over y.0 x xs gt ux) (sym (h y.0)))))
@@ -69,7 +73,8 @@ fields_same ps qs fs gs us vs e f g = rw (e, f, g) refl
 
 -- rows with one number of units of each entity, and the rest the same, are the same
 pub row_same : (x y : Row) → IsOrdered x → IsOrdered y → x.params ≡ y.params → x.facilities ≡ y.facilities → ((e : ℕ) → units_of x e ≡ units_of y e) → x ≡ y
-row_same x y h g ps fs us = fields_same x.params y.params x.facilities y.facilities x.units y.units ps fs (amounts_same x.units y.units h.units g.units h.amounts g.amounts us)
+row_same x y h g ps fs us =
+    fields_same x.params y.params x.facilities y.facilities x.units y.units ps fs (amounts_same x.units y.units h.units g.units h.amounts g.amounts us)
 
 -- SETS
 
@@ -108,11 +113,14 @@ or_among false false h = refl
 
 -- a set with some of its own stays
 united_stays : (ns ms : List ℕ) → AllPairs (λ a b. a < b) ns → AllPairs (λ a b. a < b) ms → list_all (λ b. lists ns b) ms ≡ true → union_of ns ms ≡ ns
-united_stays ns ms un um within = lists_same (union_of ns ms) ns (united_ascends ns ms un um) un (λ b. lists-united ns ms b ∙ or_among (lists ns b) (lists ms b) (λ has. included ms ns within b has))
+united_stays ns ms un um within =
+    lists_same (union_of ns ms) ns (united_ascends ns ms un um) un
+    (λ b. lists-united ns ms b ∙ or_among (lists ns b) (lists ms b) (λ has. included ms ns within b has))
 
 -- JOINS
 
-kind_stays : (k : ParamKind) (l : Option ParamKind) → KindAscends k → ((x : ParamKind) → l ≡ Some x → KindAscends x) → IsTrue (kind_fits l (Some k)) → joined_kind (Some k) l ≡ Some k
+kind_stays : (k : ParamKind) (l : Option ParamKind) → KindAscends k → ((x : ParamKind) → l ≡ Some x → KindAscends x)
+    → IsTrue (kind_fits l (Some k)) → joined_kind (Some k) l ≡ Some k
 kind_stays Num None up also h = absurd (false≢true h)
 kind_stays Num (Some Num) up also h = refl
 kind_stays Num (Some (Ret bs)) up also h = absurd (false≢true h)
@@ -126,7 +134,8 @@ own_entries [] up = All-nil (λ e. entry [] e.0 ≡ Some e.1)
 own_entries (e ∷ es) up =
     All-cons (λ x. entry (e ∷ es) x.0 ≡ Some x.1) e es
     (rw (eq-eqb e.0 e.0 refl) refl)
-    (λ k d within. let lt = AllPairs-head (λ a b. a.0 < b.0) e es up k d within in rw (ne_eqb e.0 (get_or es k d).0 (λ q. omega (arith, lt, q))) (own_entries es (AllPairs-tail (λ a b. a.0 < b.0) e es up) k d within))
+    (λ k d within. let lt = AllPairs-head (λ a b. a.0 < b.0) e es up k d within in
+    rw (ne_eqb e.0 (get_or es k d).0 (λ q. omega (arith, lt, q))) (own_entries es (AllPairs-tail (λ a b. a.0 < b.0) e es up) k d within))
 
 keep_stays : {X : Type 0} (f : ℕ → Option X) (es : List (ℕ × X)) → All (λ e. f e.0 ≡ Some e.1) es → keep f es ≡ es
 keep_stays f [] h = refl
@@ -141,10 +150,12 @@ joined_stays row state h g is =
     let e : ℕ × ParamKind = get_or row.params k d in
     let own : kind_of row e.0 ≡ Some e.1 = own_entries row.params h.params k d lt in
     ap (λ o. joined_kind o (kind_of state e.0)) own
-    ∙ kind_stays e.1 (kind_of state e.0) (h.returns k d lt) (λ x there. found KindAscends state.params e.0 x g.returns there) (subst (λ o. IsTrue (kind_fits (kind_of state e.0) o)) own (within.params e.0))) in
+    ∙ kind_stays e.1 (kind_of state e.0) (h.returns k d lt) (λ x there. found KindAscends state.params e.0 x g.returns there)
+    (subst (λ o. IsTrue (kind_fits (kind_of state e.0) o)) own (within.params e.0))) in
     row_same (join_rows row state) row (join_is_ordered row state h g) h params refl (λ e. omega (arith, units_joined row state e, within.units e))
 
-with_if : (row state : Row) (stays : Bool) → IsOrdered row → IsOrdered state → is_within state row ≡ stays → (if stays then row else join_rows row state) ≡ join_rows row state
+with_if : (row state : Row) (stays : Bool) → IsOrdered row → IsOrdered state → is_within state row ≡ stays
+    → (if stays then row else join_rows row state) ≡ join_rows row state
 with_if row state true h g is = sym (joined_stays row state h g is)
 with_if row state false h g is = refl
 

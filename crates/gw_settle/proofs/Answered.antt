@@ -1,5 +1,6 @@
 -- An object with the assembler's table.
-use Rattle.std.proofs.Common.{◌≡◌, ◌⊎◌, inl, inr, ℕ, zero, suc, List, [], ◌∷◌, ◌++◌, map, length, option_map, Option, Some, None, Bool, true, false, if◌then◌else◌, refl, sym, ap, ap₂, subst, ◌∙◌}
+use Rattle.std.proofs.Common.{◌≡◌, ◌⊎◌, inl, inr, ℕ, zero, suc, List, [], ◌∷◌, ◌++◌, map, length, option_map, Option, Some, None, Bool, true, false}
+use Rattle.std.proofs.Common.{if◌then◌else◌, refl, sym, ap, ap₂, subst, ◌∙◌}
 use Rattle.std.specs.Prelude.{All, IfSome, slice_get, nat_eq}
 use Rattle.std.specs.List.{list_any}
 use Rattle.std.specs.Option.{option_flatten}
@@ -45,19 +46,23 @@ module _ (bs : List Block) where
   kind_sets sets Num h g = h
   kind_sets sets (Ret cs) h g = set_if (list_any (λ ds. pointwise nat_eq ds cs) sets) sets cs h g
 
-  params_sets : (sets : List (List ℕ)) (ps : List (ℕ × ParamKind)) → All AllCall sets → All (λ (e : ℕ × ParamKind). KindNamesCalls bs e.1) ps → All AllCall (with_params sets ps)
+  params_sets : (sets : List (List ℕ)) (ps : List (ℕ × ParamKind)) → All AllCall sets
+      → All (λ (e : ℕ × ParamKind). KindNamesCalls bs e.1) ps → All AllCall (with_params sets ps)
   params_sets sets [] h g = h
   params_sets sets (p ∷ ps) h g =
-      params_sets (with_kind sets p.1) ps (kind_sets sets p.1 h (All-head (λ (e : ℕ × ParamKind). KindNamesCalls bs e.1) p ps g)) (All-tail (λ (e : ℕ × ParamKind). KindNamesCalls bs e.1) p ps g)
+      params_sets (with_kind sets p.1) ps (kind_sets sets p.1 h (All-head (λ (e : ℕ × ParamKind). KindNamesCalls bs e.1) p ps g))
+      (All-tail (λ (e : ℕ × ParamKind). KindNamesCalls bs e.1) p ps g)
 
   row_sets : (sets : List (List ℕ)) (row : Option Row) → All AllCall sets → IfSome row (NamesCalls bs) → All AllCall (with_row sets row)
   row_sets sets None h g = h
   row_sets sets (Some row) h g = params_sets sets row.params h g
 
-  rows_sets : (sets : List (List ℕ)) (rows : List (Option Row)) → All AllCall sets → All (λ row. IfSome row (NamesCalls bs)) rows → All AllCall (with_rows sets rows)
+  rows_sets : (sets : List (List ℕ)) (rows : List (Option Row)) → All AllCall sets → All (λ row. IfSome row (NamesCalls bs)) rows
+      → All AllCall (with_rows sets rows)
   rows_sets sets [] h g = h
   rows_sets sets (row ∷ rows) h g =
-      rows_sets (with_row sets row) rows (row_sets sets row h (All-head (λ r. IfSome r (NamesCalls bs)) row rows g)) (All-tail (λ r. IfSome r (NamesCalls bs)) row rows g)
+      rows_sets (with_row sets row) rows (row_sets sets row h (All-head (λ r. IfSome r (NamesCalls bs)) row rows g))
+      (All-tail (λ r. IfSome r (NamesCalls bs)) row rows g)
 
 -- ROWS
 
@@ -65,18 +70,26 @@ all_from_at : (P : Row → Type 0) (rows : List (Option Row)) → ((k : ℕ) →
 all_from_at P [] h = All-nil (λ r. IfSome r P)
 all_from_at P (row ∷ rows) h = All-cons (λ r. IfSome r P) row rows (h zero) (all_from_at P rows (λ k. h (suc k)))
 
-one_well : (es : List Entity) (returns : List ReturnRow) (n : ℕ) (o : Option TableState) → IfSome (option_map (row_meaning returns) o) (IsNamed es) → IfSome o (NamesRows n) → IfSome o (IsRowWell es n)
+one_well : (es : List Entity) (returns : List ReturnRow) (n : ℕ) (o : Option TableState)
+    → IfSome (option_map (row_meaning returns) o) (IsNamed es) → IfSome o (NamesRows n) → IfSome o (IsRowWell es n)
 one_well es returns n None h g = tt
 one_well es returns n (Some state) h g = written_well es returns n state h g
 
-list_well : (es : List Entity) (returns : List ReturnRow) (n : ℕ) (states : List (Option TableState)) → All (λ r. IfSome r (IsNamed es)) (map (option_map (row_meaning returns)) states) → All (λ s. IfSome s (NamesRows n)) states → All (λ s. IfSome s (IsRowWell es n)) states
+list_well : (es : List Entity) (returns : List ReturnRow) (n : ℕ) (states : List (Option TableState))
+    → All (λ r. IfSome r (IsNamed es)) (map (option_map (row_meaning returns)) states) → All (λ s. IfSome s (NamesRows n)) states
+    → All (λ s. IfSome s (IsRowWell es n)) states
 list_well es returns n [] h g = All-nil (λ s. IfSome s (IsRowWell es n))
 list_well es returns n (s ∷ states) h g =
     All-cons (λ s. IfSome s (IsRowWell es n)) s states
-    (one_well es returns n s (All-head (λ r. IfSome r (IsNamed es)) (option_map (row_meaning returns) s) (map (option_map (row_meaning returns)) states) h) (All-head (λ s. IfSome s (NamesRows n)) s states g))
-    (list_well es returns n states (All-tail (λ r. IfSome r (IsNamed es)) (option_map (row_meaning returns) s) (map (option_map (row_meaning returns)) states) h) (All-tail (λ s. IfSome s (NamesRows n)) s states g))
+    (one_well es returns n s
+    (All-head (λ r. IfSome r (IsNamed es)) (option_map (row_meaning returns) s) (map (option_map (row_meaning returns)) states) h)
+    (All-head (λ s. IfSome s (NamesRows n)) s states g))
+    (list_well es returns n states
+    (All-tail (λ r. IfSome r (IsNamed es)) (option_map (row_meaning returns) s) (map (option_map (row_meaning returns)) states) h)
+    (All-tail (λ s. IfSome s (NamesRows n)) s states g))
 
-at_map : (returns : List ReturnRow) (states : List (Option TableState)) (k : ℕ) → option_flatten (slice_get (map (option_map (row_meaning returns)) states) k) ≡ option_map (row_meaning returns) (option_flatten (slice_get states k))
+at_map : (returns : List ReturnRow) (states : List (Option TableState)) (k : ℕ)
+    → option_flatten (slice_get (map (option_map (row_meaning returns)) states) k) ≡ option_map (row_meaning returns) (option_flatten (slice_get states k))
 at_map returns [] k = refl
 at_map returns (s ∷ states) zero = refl
 at_map returns (s ∷ states) (suc k) = at_map returns states k
@@ -95,15 +108,19 @@ module _ (p : Parts) (w : Written) (well : IsWell p) (t : IsTableOf p w) where
   block_rows : All (λ s. IfSome s (IsRowWell p.entities (length w.returns))) w.states
   block_rows =
       list_well p.entities w.returns (length w.returns) w.states
-      (subst (All (λ r. IfSome r (IsNamed p.entities))) (sym t.says.blocks) (all_from_at (IsNamed p.entities) t.rows.blocks (λ k. t.final.kept.named (targets.Block (suc k)))))
+      (subst (All (λ r. IfSome r (IsNamed p.entities))) (sym t.says.blocks)
+      (all_from_at (IsNamed p.entities) t.rows.blocks (λ k. t.final.kept.named (targets.Block (suc k)))))
       t.says.block_numbers
 
   chain_rows : (e : ℕ) → IfSome (chain_row q e) (IsRowWell p.entities (length w.returns))
   chain_rows e =
       let k = chain_place p.entities e in
       let named : IfSome (option_map (row_meaning w.returns) (option_flatten (slice_get w.chain_states k))) (IsNamed p.entities) =
-      subst (λ o. IfSome o (IsNamed p.entities)) (ap (λ (rows : List (Option Row)). option_flatten (slice_get rows k)) (sym t.says.chains) ∙ at_map w.returns w.chain_states k) (t.final.kept.named (targets.Chain e)) in
-      one_well p.entities w.returns (length w.returns) (option_flatten (slice_get w.chain_states k)) named (all_at (NamesRows (length w.returns)) w.chain_states k t.says.chain_numbers)
+      subst (λ o. IfSome o (IsNamed p.entities))
+      (ap (λ (rows : List (Option Row)). option_flatten (slice_get rows k)) (sym t.says.chains) ∙ at_map w.returns w.chain_states k)
+      (t.final.kept.named (targets.Chain e)) in
+      one_well p.entities w.returns (length w.returns) (option_flatten (slice_get w.chain_states k)) named
+      (all_at (NamesRows (length w.returns)) w.chain_states k t.says.chain_numbers)
 
   pub kinds_settled : KindsPass q
   kinds_settled = kinds_with p w.returns w.states w.chain_states well.kinds calls block_rows chain_rows
@@ -137,9 +154,11 @@ module _ (p : Parts) (w : Written) (well : IsWell p) (t : IsTableOf p w) where
   pub passes_where_any : NoneChanged p → (o : Parts) → Passes p o → FlowPasses q (own_table q)
   passes_where_any none o h =
       let other = other_passes o h in
-      flow_same_to p w.returns w.states w.chain_states (own_table q) (settled_passes p (as_table p (own_rows q)) (own_table o) none kept.good settled.each other.1 other.0)
+      flow_same_to p w.returns w.states w.chain_states (own_table q)
+      (settled_passes p (as_table p (own_rows q)) (own_table o) none kept.good settled.each other.1 other.0)
 
-  fault_or : (fault : Fault) → (first_broken (flow_checks q (own_table q)) ≡ Some fault) ⊎ (fault ≡ out_of_memory) → FlowPasses q (own_table q) → IsNoFlowFault p fault
+  fault_or : (fault : Fault) → (first_broken (flow_checks q (own_table q)) ≡ Some fault) ⊎ (fault ≡ out_of_memory)
+      → FlowPasses q (own_table q) → IsNoFlowFault p fault
   fault_or fault (inl h) pass = absurd (let none : Some fault ≡ None = sym h ∙ pass in cc)
   fault_or fault (inr h) pass = inl h
 
@@ -151,7 +170,9 @@ module _ (p : Parts) (w : Written) (well : IsWell p) (t : IsTableOf p w) where
   refused_settled fault (inr h) = inl (inl h)
 
 -- an object with its own table once more is what it was
-pub back : (p q : Parts) (returns own_returns : List ReturnRow) (states own_states chain_states own_chain_states : List (Option TableState)) → q ≡ with_table p returns states chain_states → own_returns ≡ p.returns → own_states ≡ p.states → own_chain_states ≡ p.chain_states →
+pub back : (p q : Parts) (returns own_returns : List ReturnRow)
+    (states own_states chain_states own_chain_states : List (Option TableState)) → q ≡ with_table p returns states chain_states
+    → own_returns ≡ p.returns → own_states ≡ p.states → own_chain_states ≡ p.chain_states →
     with_table q own_returns own_states own_chain_states ≡ p
 back p q returns own_returns states own_states chain_states own_chain_states is a b c = rw (is, a, b, c) refl
 

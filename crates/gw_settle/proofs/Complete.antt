@@ -1,5 +1,6 @@
 -- Each row that the rounds compute fits the row of every table that passes, so a settled table passes where any does.
-use Rattle.std.proofs.Common.{◌≡◌, ◌⊎◌, ⊎_elim, inl, inr, ℕ, List, [], ◌∷◌, ◌++◌, length, Option, Some, None, Bool, true, false, not, ◌&&◌, ◌||◌, ◌==◌, refl, sym, ap, subst, ◌∙◌, arith}
+use Rattle.std.proofs.Common.{◌≡◌, ◌⊎◌, ⊎_elim, inl, inr, ℕ, List, [], ◌∷◌, ◌++◌, length, Option, Some, None, Bool, true, false, not, ◌&&◌, ◌||◌}
+use Rattle.std.proofs.Common.{◌==◌, refl, sym, ap, subst, ◌∙◌, arith}
 use Rattle.std.specs.Prelude.{All, IsSomeAnd, IfSome, is_some}
 use Rattle.std.specs.List.{list_all}
 use Rattle.std.proofs.lemmas.Bool.{and_parts, and_from, eqb-true, eq-eqb, false≢true}
@@ -50,7 +51,8 @@ no_list : {X : Type 0} (xs : List X) → (length xs == 0) ≡ true → xs ≡ []
 no_list [] h = refl
 no_list (x ∷ xs) h = absurd (let e = eqb-true (length (x ∷ xs)) 0 h in omega (arith, e))
 
-empty_fields : (ps : List (ℕ × ParamKind)) (fs : List ℕ) (us : List (ℕ × ℕ)) → ps ≡ [] → fs ≡ [] → us ≡ [] → ◌≡◌ {A = Row} (record { params = ps; facilities = fs; units = us }) nothing_known
+empty_fields : (ps : List (ℕ × ParamKind)) (fs : List ℕ) (us : List (ℕ × ℕ)) → ps ≡ [] → fs ≡ [] → us ≡ []
+    → ◌≡◌ {A = Row} (record { params = ps; facilities = fs; units = us }) nothing_known
 empty_fields ps fs us e f g = rw (e, f, g) refl
 
 empty_is : (row : Row) → is_empty row ≡ true → row ≡ nothing_known
@@ -108,15 +110,19 @@ module _ (p : Parts) (s t : Table) (good : IsGood p s) (none : NoneChanged p) (b
   either true kind h = refl
   either false kind h = ap not (h refl)
 
-  may_assign : (b : ℕ) (a : Assign) (state row : Row) → block_at p.blocks b ≡ Some (blocks.Assign a) → IsGrounded p state → Fits state row → MayPass p t b (blocks.Assign a) row → MayPass p t b (blocks.Assign a) state
+  may_assign : (b : ℕ) (a : Assign) (state row : Row) → block_at p.blocks b ≡ Some (blocks.Assign a) → IsGrounded p state → Fits state row
+      → MayPass p t b (blocks.Assign a) row → MayPass p t b (blocks.Assign a) state
   may_assign b a state row is g fits may =
       let sets : Block = blocks.Assign (record a { mode = Set }) in
       let values = All-front Holds (value_rules p (blocks.Assign a) row) (own_rules p (blocks.Assign a) row) may.each_rule in
       let always = All-cons Holds (rule codes.param_kind true) [] refl (All-nil Holds) in
-      let as_set : MayPass p t b sets row = record { each_rule = All-append Holds (value_rules p (blocks.Assign a) row) (own_rules p sets row) values always; each_edge = may.each_edge } in
+      let as_set : MayPass p t b sets row =
+      record { each_rule = All-append Holds (value_rules p (blocks.Assign a) row) (own_rules p sets row) values always; each_edge = may.each_edge } in
       let on = fitting_states_pass p t b sets state row refl fits as_set in
       let own : (replaces a.mode || not (is_return (kind_of state a.parameter))) ≡ true = either (replaces a.mode) (kind_of state a.parameter)
-      (λ adds. not_return b a.parameter (kind_of state a.parameter) (ap (λ k. changes k a.parameter) is ∙ and_from (not (replaces a.mode)) (a.parameter == a.parameter) (ap not adds) (eq-eqb a.parameter a.parameter refl)) (g a.parameter)) in
+      (λ adds. not_return b a.parameter (kind_of state a.parameter)
+      (ap (λ k. changes k a.parameter) is
+      ∙ and_from (not (replaces a.mode)) (a.parameter == a.parameter) (ap not adds) (eq-eqb a.parameter a.parameter refl)) (g a.parameter)) in
       record {
         each_rule = All-append Holds (value_rules p (blocks.Assign a) state) (own_rules p (blocks.Assign a) state)
             (All-front Holds (value_rules p (blocks.Assign a) state) (own_rules p sets state) on.each_rule)
@@ -124,13 +130,15 @@ module _ (p : Parts) (s t : Table) (good : IsGood p s) (none : NoneChanged p) (b
         each_edge = on.each_edge;
       }
 
-  may_pass : (b : ℕ) (block : Block) (state row : Row) → Forbidding block → block_at p.blocks b ≡ Some block → s (targets.Block b) ≡ Some state → Fits state row → MayPass p t b block row → MayPass p t b block state
+  may_pass : (b : ℕ) (block : Block) (state row : Row) → Forbidding block → block_at p.blocks b ≡ Some block → s (targets.Block b)
+      ≡ Some state → Fits state row → MayPass p t b block row → MayPass p t b block state
   may_pass b _ state row (Arrives g) is has fits may =
       let rule_holds = All-back Holds (value_rules p (blocks.Generate g) row) (own_rules p (blocks.Generate g) row) may.each_rule in
       let empty = empty_is row (All-head Holds (rule codes.edge_state (is_empty row)) [] rule_holds) in
       let here : state ≡ nothing_known = some_same state nothing_known (sym has ∙ good.arrivals b (ap is_generate is)) in
       subst (MayPass p t b (blocks.Generate g)) (empty ∙ sym here) may
-  may_pass b _ state row (Assigns a) is has fits may = may_assign b a state row is (subst (λ row. IfSome row (IsGrounded p)) has (good.grounded (targets.Block b))) fits may
+  may_pass b _ state row (Assigns a) is has fits may =
+      may_assign b a state row is (subst (λ row. IfSome row (IsGrounded p)) has (good.grounded (targets.Block b))) fits may
   may_pass b block state row (Nothing isnt) is has fits may = fitting_states_pass p t b block state row isnt fits may
 
   -- EDGES TO AND FROM CHAINS
@@ -146,15 +154,18 @@ module _ (p : Parts) (s t : Table) (good : IsGood p s) (none : NoneChanged p) (b
   members_fit to None other h g = All-nil Fit
   members_fit to (Some own) None h g = absurd h
   members_fit to (Some own) (Some other) h g =
-      All-cons Fit (record (move to own) { code = codes.chain_state }) [] (on (t (targets.Block to)) own other h (All-head Fit (record (move to other) { code = codes.chain_state }) [] g)) (All-nil Fit)
+      All-cons Fit (record (move to own) { code = codes.chain_state }) []
+      (on (t (targets.Block to)) own other h (All-head Fit (record (move to other) { code = codes.chain_state }) [] g)) (All-nil Fit)
 
   chains_fit : (block : Block) (state : Row) → ChainUse block → All Fit (chain_edges t block state) → All Fit (chain_edges s block state)
   chains_fit _ state (Links l) h = h
   chains_fit _ state (Unlinks u) h = members_fit u.target (s (targets.Chain u.chain)) (t (targets.Chain u.chain)) (below (targets.Chain u.chain)) h
-  chains_fit block state (Neither joins_none members) h = subst (λ es. All Fit (es ++ members_edges s block)) (sym (joins_none state)) (subst (All Fit) (sym (members s)) (All-nil Fit))
+  chains_fit block state (Neither joins_none members) h =
+      subst (λ es. All Fit (es ++ members_edges s block)) (sym (joins_none state)) (subst (All Fit) (sym (members s)) (All-nil Fit))
 
   -- in its row of the table of the rounds, a block's rules hold, and its edges fit the rows of the table that passes
-  row_in : (b : ℕ) (block : Block) (state : Row) (there : Option Row) → block_at p.blocks b ≡ Some block → s (targets.Block b) ≡ Some state → t (targets.Block b) ≡ there → IsSomeAnd there (Fits state) → All Holds (rules p block state) × All Fit (edges p s b block state)
+  row_in : (b : ℕ) (block : Block) (state : Row) (there : Option Row) → block_at p.blocks b ≡ Some block → s (targets.Block b) ≡ Some state
+      → t (targets.Block b) ≡ there → IsSomeAnd there (Fits state) → All Holds (rules p block state) × All Fit (edges p s b block state)
   row_in b block state None is has there fits = absurd fits
   row_in b block state (Some row) is has there fits =
       let may = may_pass b block state row (forbidding block) is has fits (holds.each_row b block row is there) in (
@@ -164,12 +175,15 @@ module _ (p : Parts) (s t : Table) (good : IsGood p s) (none : NoneChanged p) (b
             (chains_fit block state (chain_use block) (All-back Fit (edges_from b block state) (chain_edges t block state) may.each_edge)),
       )
 
-  pub row_passes : (b : ℕ) (block : Block) (state : Row) → block_at p.blocks b ≡ Some block → s (targets.Block b) ≡ Some state → All Holds (rules p block state) × All Fit (edges p s b block state)
-  row_passes b block state is has = row_in b block state (t (targets.Block b)) is has refl (subst (λ r. IsBelow r (t (targets.Block b))) has (below (targets.Block b)))
+  pub row_passes : (b : ℕ) (block : Block) (state : Row) → block_at p.blocks b ≡ Some block → s (targets.Block b) ≡ Some state
+      → All Holds (rules p block state) × All Fit (edges p s b block state)
+  row_passes b block state is has =
+      row_in b block state (t (targets.Block b)) is has refl (subst (λ r. IsBelow r (t (targets.Block b))) has (below (targets.Block b)))
 
   -- A SETTLED TABLE
 
-  idle_fits : (state : Row) (own other : Option Row) → IsBelow own other → IsSomeAnd own (Within state) → IsSomeAnd other (Fits state) → IsSomeAnd own (Fits state)
+  idle_fits : (state : Row) (own other : Option Row) → IsBelow own other → IsSomeAnd own (Within state) → IsSomeAnd other (Fits state)
+      → IsSomeAnd own (Fits state)
   idle_fits state None other h idle fits = idle
   idle_fits state (Some row) None h idle fits = absurd h
   idle_fits state (Some row) (Some other) h idle fits = record { params = idle.params; facilities = fits.facilities ∙ sym h.facilities; units = idle.units }
@@ -185,7 +199,8 @@ module _ (p : Parts) (s t : Table) (good : IsGood p s) (none : NoneChanged p) (b
   all_hold [] h = refl
   all_hold (r ∷ rs) h = and_from r.holds (list_all (λ (rule : Rule). rule.holds) rs) (All-head Holds r rs h) (all_hold rs (All-tail Holds r rs h))
 
-  settled_row : ((b : ℕ) → IsIdleAt p s b) → (b : ℕ) (block : Block) (state : Row) → block_at p.blocks b ≡ Some block → s (targets.Block b) ≡ Some state → MayPass p s b block state
+  settled_row : ((b : ℕ) → IsIdleAt p s b) → (b : ℕ) (block : Block) (state : Row) → block_at p.blocks b ≡ Some block → s (targets.Block b)
+      ≡ Some state → MayPass p s b block state
   settled_row settled b block state is has =
       let passes = row_passes b block state is has in
       let sent : sends p s b ≡ edges p s b block state = rw (is, has) (rw (all_hold (rules p block state) passes.0) refl) in
@@ -216,11 +231,13 @@ start_grounded : (p : Parts) (row : Option Row) → (row ≡ None) ⊎ (row ≡ 
 start_grounded p row (inl e) = subst (λ row. IfSome row (IsGrounded p)) (sym e) tt
 start_grounded p row (inr e) = subst (λ row. IfSome row (IsGrounded p)) (sym e) (λ q. tt)
 
-pub start_at : (p : Parts) (s : Table) (x : Target) → IsStart p s → (s x ≡ None) ⊎ ((s x ≡ Some nothing_known) × ((b : ℕ) × (x ≡ targets.Block b) × (is_generate (block_at p.blocks b) ≡ true)))
+pub start_at : (p : Parts) (s : Table) (x : Target) → IsStart p s → (s x ≡ None)
+    ⊎ ((s x ≡ Some nothing_known) × ((b : ℕ) × (x ≡ targets.Block b) × (is_generate (block_at p.blocks b) ≡ true)))
 start_at p s (targets.Chain e) start = inl (start.chains e)
 start_at p s (targets.Block b) start = by_case (is_generate (block_at p.blocks b)) refl
   where
-    by_case : (g : Bool) → is_generate (block_at p.blocks b) ≡ g → (s (targets.Block b) ≡ None) ⊎ ((s (targets.Block b) ≡ Some nothing_known) × ((c : ℕ) × (targets.Block b ≡ targets.Block c) × (is_generate (block_at p.blocks c) ≡ true)))
+    by_case : (g : Bool) → is_generate (block_at p.blocks b) ≡ g → (s (targets.Block b) ≡ None)
+        ⊎ ((s (targets.Block b) ≡ Some nothing_known) × ((c : ℕ) × (targets.Block b ≡ targets.Block c) × (is_generate (block_at p.blocks c) ≡ true)))
     by_case true g = inr (start.arrivals b g, (b, refl, g))
     by_case false g = inl (start.others b g)
 
@@ -229,7 +246,8 @@ arrival_block None h = absurd (false≢true h)
 arrival_block (Some (blocks.Generate g)) h = (g, refl)
 arrival_block (Some block) h = absurd (false≢true h)
 
-start_below : (p : Parts) (t : Table) (b : ℕ) (there : Option Row) → FlowHolds p t → is_generate (block_at p.blocks b) ≡ true → t (targets.Block b) ≡ there → IsSomeAnd there (Fits nothing_known)
+start_below : (p : Parts) (t : Table) (b : ℕ) (there : Option Row) → FlowHolds p t → is_generate (block_at p.blocks b) ≡ true
+    → t (targets.Block b) ≡ there → IsSomeAnd there (Fits nothing_known)
 start_below p t b None holds is has = absurd (let e = holds.arrivals b is in let n = ap (λ (o : Option Row). is_some o) has in false≢true (sym n ∙ e))
 start_below p t b (Some row) holds is has =
     let block = arrival_block (block_at p.blocks b) is in
@@ -241,10 +259,14 @@ start_below p t b (Some row) holds is has =
 pub start_is_good : (p : Parts) (s : Table) → IsStart p s → IsGood p s
 start_is_good p s start = record {
   arrivals = start.arrivals;
-  grounded = λ x. ⊎_elim (λ (e : s x ≡ None). start_grounded p (s x) (inl e)) (λ (e : (s x ≡ Some nothing_known) × ((b : ℕ) × (x ≡ targets.Block b) × (is_generate (block_at p.blocks b) ≡ true))). start_grounded p (s x) (inr e.0)) (start_at p s x start);
+  grounded = λ x. ⊎_elim (λ (e : s x ≡ None). start_grounded p (s x) (inl e))
+      (λ (e : (s x ≡ Some nothing_known) × ((b : ℕ) × (x ≡ targets.Block b) × (is_generate (block_at p.blocks b) ≡ true))). start_grounded
+      p (s x) (inr e.0)) (start_at p s x start);
   below = λ none t by pass x. ⊎_elim
       (λ (e : s x ≡ None). subst (λ y. IsBelow y (t x)) (sym e) tt)
       (λ (e : (s x ≡ Some nothing_known) × ((b : ℕ) × (x ≡ targets.Block b) × (is_generate (block_at p.blocks b) ≡ true))).
-      subst (λ y. IsBelow y (t x)) (sym e.0) (subst (λ y. IsSomeAnd (t y) (Fits nothing_known)) (sym e.1.1) (start_below p t e.1.0 (t (targets.Block e.1.0)) ((flow_passes_at_each_block p t).0 pass) e.1.2 refl)))
+      subst (λ y. IsBelow y (t x)) (sym e.0)
+      (subst (λ y. IsSomeAnd (t y) (Fits nothing_known)) (sym e.1.1)
+      (start_below p t e.1.0 (t (targets.Block e.1.0)) ((flow_passes_at_each_block p t).0 pass) e.1.2 refl)))
       (start_at p s x start);
 }

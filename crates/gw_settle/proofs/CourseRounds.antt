@@ -21,7 +21,8 @@ use Rattle.gw_settle.specs.Joins.{join_rows, with_state}
 use Rattle.gw_settle.specs.Rounds.{TableRows, as_table, with_change_at, sent_at, sent_to, all_sent, sends_in, visit_block, visited_to}
 use Rattle.gw_settle.specs.Jumps.{units_asked, row_in}
 use Rattle.gw_settle.proofs.Alike.{with_joined}
-use Rattle.gw_settle.proofs.Courses.{Course, Declines, joined_declines, IsDecidedFor, rules_same, rules_held, CourseEdge, edge_at, edges_at, EdgeDeclines, course_edge, courses_from, from_at, from_decline, courses_joining, joining_at, joining_declines}
+use Rattle.gw_settle.proofs.Courses.{Course, Declines, joined_declines, IsDecidedFor, rules_same, rules_held, CourseEdge, edge_at, edges_at}
+use Rattle.gw_settle.proofs.Courses.{EdgeDeclines, course_edge, courses_from, from_at, from_decline, courses_joining, joining_at, joining_declines}
 
 -- the courses of the rows of a table
 pub record CourseRows : Type 0 where
@@ -96,27 +97,33 @@ with_declines n s (Some f) h g = joined_declines n f s g h
 abbrev course_sent_at : Course → ℕ → List (Option Course) → List (Option Course)
 course_sent_at s k cs = with_change_at (λ c. Some (with_course s c)) k cs
 
-sent_place : (n t : ℕ) (s : Course) (k : ℕ) (cs : List (Option Course)) → Declines n s → All (PlaceDeclines n) cs → places_at t (course_sent_at s k cs) ≡ sent_at (s t) k (places_at t cs)
+sent_place : (n t : ℕ) (s : Course) (k : ℕ) (cs : List (Option Course)) → Declines n s → All (PlaceDeclines n) cs
+    → places_at t (course_sent_at s k cs) ≡ sent_at (s t) k (places_at t cs)
 sent_place n t s k [] h g = refl
 sent_place n t s zero (c ∷ cs) h g = ap (λ row. Some row ∷ places_at t cs) (with_at n t s c h (All-head (PlaceDeclines n) c cs g))
 sent_place n t s (suc k) (c ∷ cs) h g = ap (λ xs. place_at t c ∷ xs) (sent_place n t s k cs h (All-tail (PlaceDeclines n) c cs g))
 
-sent_declines : (n : ℕ) (s : Course) (k : ℕ) (cs : List (Option Course)) → Declines n s → All (PlaceDeclines n) cs → All (PlaceDeclines n) (course_sent_at s k cs)
+sent_declines : (n : ℕ) (s : Course) (k : ℕ) (cs : List (Option Course)) → Declines n s → All (PlaceDeclines n) cs
+    → All (PlaceDeclines n) (course_sent_at s k cs)
 sent_declines n s k [] h g = g
-sent_declines n s zero (c ∷ cs) h g = All-cons (PlaceDeclines n) (Some (with_course s c)) cs (with_declines n s c h (All-head (PlaceDeclines n) c cs g)) (All-tail (PlaceDeclines n) c cs g)
-sent_declines n s (suc k) (c ∷ cs) h g = All-cons (PlaceDeclines n) c (course_sent_at s k cs) (All-head (PlaceDeclines n) c cs g) (sent_declines n s k cs h (All-tail (PlaceDeclines n) c cs g))
+sent_declines n s zero (c ∷ cs) h g =
+    All-cons (PlaceDeclines n) (Some (with_course s c)) cs (with_declines n s c h (All-head (PlaceDeclines n) c cs g)) (All-tail (PlaceDeclines n) c cs g)
+sent_declines n s (suc k) (c ∷ cs) h g =
+    All-cons (PlaceDeclines n) c (course_sent_at s k cs) (All-head (PlaceDeclines n) c cs g) (sent_declines n s k cs h (All-tail (PlaceDeclines n) c cs g))
 
 abbrev course_sent_to : List Entity → Course → Target → CourseRows → CourseRows
 course_sent_to es s (targets.Block zero) cs = cs
 course_sent_to es s (targets.Block (suc k)) cs = record cs { blocks = course_sent_at s k cs.blocks }
 course_sent_to es s (targets.Chain e) cs = record cs { chains = course_sent_at s (chain_place es e) cs.chains }
 
-to_at : (es : List Entity) (n t : ℕ) (s : Course) (to : Target) (cs : CourseRows) → Declines n s → AllDecline n cs → rows_at t (course_sent_to es s to cs) ≡ sent_to es (s t) to (rows_at t cs)
+to_at : (es : List Entity) (n t : ℕ) (s : Course) (to : Target) (cs : CourseRows) → Declines n s → AllDecline n cs
+    → rows_at t (course_sent_to es s to cs) ≡ sent_to es (s t) to (rows_at t cs)
 to_at es n t s (targets.Block zero) cs h g = refl
 to_at es n t s (targets.Block (suc k)) cs h g = ap (λ xs. record (rows_at t cs) { blocks = xs }) (sent_place n t s k cs.blocks h g.blocks)
 to_at es n t s (targets.Chain e) cs h g = ap (λ xs. record (rows_at t cs) { chains = xs }) (sent_place n t s (chain_place es e) cs.chains h g.chains)
 
-to_declines : (es : List Entity) (n : ℕ) (s : Course) (to : Target) (cs : CourseRows) → Declines n s → AllDecline n cs → AllDecline n (course_sent_to es s to cs)
+to_declines : (es : List Entity) (n : ℕ) (s : Course) (to : Target) (cs : CourseRows) → Declines n s → AllDecline n cs
+    → AllDecline n (course_sent_to es s to cs)
 to_declines es n s (targets.Block zero) cs h g = g
 to_declines es n s (targets.Block (suc k)) cs h g = record { blocks = sent_declines n s k cs.blocks h g.blocks; chains = g.chains }
 to_declines es n s (targets.Chain e) cs h g = record { blocks = g.blocks; chains = sent_declines n s (chain_place es e) cs.chains h g.chains }
@@ -127,14 +134,17 @@ abbrev courses_sent : Parts → List CourseEdge → CourseRows → CourseRows
 courses_sent p [] cs = cs
 courses_sent p (e ∷ es) cs = courses_sent p es (course_sent_to p.entities e.course e.target cs)
 
-sent_all_at : (p : Parts) (n t : ℕ) (es : List CourseEdge) (cs : CourseRows) → All (EdgeDeclines n) es → AllDecline n cs → rows_at t (courses_sent p es cs) ≡ all_sent p (edges_at t es) (rows_at t cs)
+sent_all_at : (p : Parts) (n t : ℕ) (es : List CourseEdge) (cs : CourseRows) → All (EdgeDeclines n) es → AllDecline n cs
+    → rows_at t (courses_sent p es cs) ≡ all_sent p (edges_at t es) (rows_at t cs)
 sent_all_at p n t [] cs h g = refl
 sent_all_at p n t (e ∷ es) cs h g =
     let first = All-head (EdgeDeclines n) e es h in
-    sent_all_at p n t es (course_sent_to p.entities e.course e.target cs) (All-tail (EdgeDeclines n) e es h) (to_declines p.entities n e.course e.target cs first g)
+    sent_all_at p n t es (course_sent_to p.entities e.course e.target cs) (All-tail (EdgeDeclines n) e es h)
+    (to_declines p.entities n e.course e.target cs first g)
     ∙ ap (λ rows. all_sent p (edges_at t es) rows) (to_at p.entities n t e.course e.target cs first g)
 
-sent_all_decline : (p : Parts) (n : ℕ) (es : List CourseEdge) (cs : CourseRows) → All (EdgeDeclines n) es → AllDecline n cs → AllDecline n (courses_sent p es cs)
+sent_all_decline : (p : Parts) (n : ℕ) (es : List CourseEdge) (cs : CourseRows) → All (EdgeDeclines n) es → AllDecline n cs
+    → AllDecline n (courses_sent p es cs)
 sent_all_decline p n [] cs h g = g
 sent_all_decline p n (e ∷ es) cs h g =
     sent_all_decline p n es (course_sent_to p.entities e.course e.target cs) (All-tail (EdgeDeclines n) e es h)
@@ -155,7 +165,8 @@ members_at t to None = refl
 members_at t to (Some members) = refl
 
 leaving_at : (p : Parts) (t : ℕ) (cs : CourseRows) (block : Block) → edges_at t (courses_leaving p cs block) ≡ members_edges (as_table p (rows_at t cs)) block
-leaving_at p t cs (blocks.Unlink u) = members_at t u.target (course_of p cs (targets.Chain u.chain)) ∙ ap (members_move u.target) (sym (table_at p t cs (targets.Chain u.chain)))
+leaving_at p t cs (blocks.Unlink u) = members_at t u.target (course_of p cs (targets.Chain u.chain))
+    ∙ ap (members_move u.target) (sym (table_at p t cs (targets.Chain u.chain)))
 leaving_at p t cs block = refl
 
 members_decline : (n to : ℕ) (members : Option Course) → PlaceDeclines n members → All (EdgeDeclines n) (member_courses to members)
@@ -201,7 +212,8 @@ IsReadyAt n (Some block) (Some f) = IsReadyIn n block f
 abbrev pub IsReady : Parts → ℕ → CourseRows → ℕ → Type 0
 IsReady p n cs b = IsReadyAt n (block_at p.blocks b) (course_of p cs (targets.Block b))
 
-if_at : (t : ℕ) (holds : Bool) (es : List CourseEdge) (fs : List FlowEdge) → edges_at t es ≡ fs → edges_at t (if holds then es else []) ≡ (if holds then fs else [])
+if_at : (t : ℕ) (holds : Bool) (es : List CourseEdge) (fs : List FlowEdge) → edges_at t es ≡ fs → edges_at t (if holds then es else [])
+    ≡ (if holds then fs else [])
 if_at t true es fs h = h
 if_at t false es fs h = refl
 
@@ -211,13 +223,15 @@ of_at p n t cs b None c h ready le = refl
 of_at p n t cs b (Some block) None h ready le = refl
 of_at p n t cs b (Some block) (Some f) h ready le =
     if_at t (AllHold p block (f 0)) (courses_along p cs b block f) (edges p (as_table p (rows_at t cs)) b block (f t)) (all_along_at p n t cs b block f h le)
-    ∙ ap (λ rs. if list_all (λ (r : Rule). r.holds) rs then edges p (as_table p (rows_at t cs)) b block (f t) else []) (sym (rules_same p n t f h le block ready.decided ready.arrives))
+    ∙ ap (λ rs. if list_all (λ (r : Rule). r.holds) rs then edges p (as_table p (rows_at t cs)) b block (f t) else [])
+    (sym (rules_same p n t f h le block ready.decided ready.arrives))
 
 if_decline : (n : ℕ) (holds : Bool) (es : List CourseEdge) → (holds ≡ true → All (EdgeDeclines n) es) → All (EdgeDeclines n) (if holds then es else [])
 if_decline n true es h = h refl
 if_decline n false es h = All-nil (EdgeDeclines n)
 
-of_decline : (p : Parts) (n : ℕ) (cs : CourseRows) (b : ℕ) (block : Option Block) (c : Option Course) → AllDecline n cs → PlaceDeclines n c → IsReadyAt n block c → All (EdgeDeclines n) (courses_of p cs b block c)
+of_decline : (p : Parts) (n : ℕ) (cs : CourseRows) (b : ℕ) (block : Option Block) (c : Option Course) → AllDecline n cs → PlaceDeclines n c
+    → IsReadyAt n block c → All (EdgeDeclines n) (courses_of p cs b block c)
 of_decline p n cs b None c all h ready = All-nil (EdgeDeclines n)
 of_decline p n cs b (Some block) None all h ready = All-nil (EdgeDeclines n)
 of_decline p n cs b (Some block) (Some f) all h ready =
@@ -232,10 +246,12 @@ of_decline p n cs b (Some block) (Some f) all h ready =
 abbrev pub course_visited : Parts → ℕ → CourseRows → CourseRows
 course_visited p b cs = courses_sent p (courses_of p cs b (block_at p.blocks b) (course_of p cs (targets.Block b))) cs
 
-pub visited_at : (p : Parts) (n t b : ℕ) (cs : CourseRows) → AllDecline n cs → IsReady p n cs b → t ≤ n → rows_at t (course_visited p b cs) ≡ visit_block p b (rows_at t cs)
+pub visited_at : (p : Parts) (n t b : ℕ) (cs : CourseRows) → AllDecline n cs → IsReady p n cs b → t ≤ n → rows_at t (course_visited p b cs)
+    ≡ visit_block p b (rows_at t cs)
 visited_at p n t b cs h ready le =
     let here = declines_of p n cs (targets.Block b) h in
-    sent_all_at p n t (courses_of p cs b (block_at p.blocks b) (course_of p cs (targets.Block b))) cs (of_decline p n cs b (block_at p.blocks b) (course_of p cs (targets.Block b)) h here ready) h
+    sent_all_at p n t (courses_of p cs b (block_at p.blocks b) (course_of p cs (targets.Block b))) cs
+    (of_decline p n cs b (block_at p.blocks b) (course_of p cs (targets.Block b)) h here ready) h
     ∙ ap (λ es. all_sent p es (rows_at t cs))
     (of_at p n t cs b (block_at p.blocks b) (course_of p cs (targets.Block b)) here ready le
     ∙ ap (λ row. sends_in p (as_table p (rows_at t cs)) b (block_at p.blocks b) row) (sym (table_at p t cs (targets.Block b))))

@@ -1,5 +1,6 @@
 -- Courses: what rows say after so many rounds, where these lower amounts alone. What a block sends in one has a course of its own.
-use Rattle.std.proofs.Common.{◌≡◌, ◌≢◌, ◌⊎◌, inl, inr, ⊎_elim, ℕ, zero, suc, ◌+◌, ◌-◌, ◌≤◌, ◌<◌, List, [], ◌∷◌, ◌++◌, map, length, Option, Some, None, Bool, true, false, not, ◌==◌, ◌&&◌, ◌||◌, if◌then◌else◌, nat_le, refl, sym, ap, ap₂, subst, ◌∙◌, arith}
+use Rattle.std.proofs.Common.{◌≡◌, ◌≢◌, ◌⊎◌, inl, inr, ⊎_elim, ℕ, zero, suc, ◌+◌, ◌-◌, ◌≤◌, ◌<◌, List, [], ◌∷◌, ◌++◌, map, length, Option, Some, None}
+use Rattle.std.proofs.Common.{Bool, true, false, not, ◌==◌, ◌&&◌, ◌||◌, if◌then◌else◌, nat_le, refl, sym, ap, ap₂, subst, ◌∙◌, arith}
 use Rattle.std.specs.Prelude.{All, is_some}
 use Rattle.std.specs.List.{list_all, flat_map}
 use Rattle.std.proofs.lemmas.Bool.{cases_eq, eq-eqb, ne_eqb, le-leb, lt-leb, leb-true, and_parts}
@@ -22,9 +23,11 @@ use Rattle.gw_rules.specs.declared.edges.Target.TheVariants as targets
 use Rattle.gw_rules.specs.Blocks.{FlowEdge}
 use Rattle.gw_rules.specs.FlowCodes as codes
 use Rattle.gw_rules.specs.Entries.{lists, entry, amount_of, with_entry, with_number, without_number}
-use Rattle.gw_rules.specs.Rows.{Row, ParamKind, is_number, is_return, return_blocks, units_of, nothing_known, is_empty, with_parameter, with_facility, without_facility, with_units, parameters_alone, KindAscends, IsOrdered}
+use Rattle.gw_rules.specs.Rows.{Row, ParamKind, is_number, is_return, return_blocks, units_of, nothing_known, is_empty, with_parameter, with_facility}
+use Rattle.gw_rules.specs.Rows.{without_facility, with_units, parameters_alone, KindAscends, IsOrdered}
 use Rattle.gw_rules.specs.Seen.{kind_seen}
-use Rattle.gw_rules.specs.Blocks.{Rule, rule, replaces, number_rules, parameters_read, value_rules, own_rules, rules, parameter_set, with_setting, after, returns_read, is_used, known_of, edges_along, edges_from, joins}
+use Rattle.gw_rules.specs.Blocks.{Rule, rule, replaces, number_rules, parameters_read, value_rules, own_rules, rules, parameter_set, with_setting}
+use Rattle.gw_rules.specs.Blocks.{after, returns_read, is_used, known_of, edges_along, edges_from, joins}
 use Rattle.gw_rules.proofs.Entries.{amount-with_entry}
 use Rattle.gw_flow.proofs.Ordered.{seen_ascends, with_parameter_ordered, with_facility_ordered, without_facility_ordered, with_units_ordered}
 use Rattle.gw_settle.specs.Joins.{keep, joined_kind, join_rows}
@@ -65,7 +68,14 @@ joined_declines n f s h g = record {
   facilities = h.facilities;
   ordered = λ t. join_is_ordered (f t) (s t) (h.ordered t) (g.ordered t);
   falls = λ t e le. omega (arith, units_joined (f t) (s t) e, units_joined (f (suc t)) (s (suc t)) e, h.falls t e le, g.falls t e le);
-  slows = λ t e le. omega (arith, units_joined (f t) (s t) e, units_joined (f (suc t)) (s (suc t)) e, units_joined (f (suc (suc t))) (s (suc (suc t))) e, h.slows t e le, g.slows t e le);
+  slows = λ t e le. omega (
+    arith,
+    units_joined (f t) (s t) e,
+    units_joined (f (suc t)) (s (suc t)) e,
+    units_joined (f (suc (suc t))) (s (suc (suc t))) e,
+    h.slows t e le,
+    g.slows t e le,
+  );
 }
 
 -- CHANGES
@@ -108,7 +118,8 @@ unwritten : (row : Row) (x n e : ℕ) → x ≢ e → units_of (with_units x n r
 unwritten row x n e ne = amount-with_entry x n row.units e ∙ rw (ne_eqb x e ne) refl
 
 -- amounts of one entity that fall so take the place of others
-units_declines : (n x : ℕ) (g : ℕ → ℕ) (f : Course) → ((t : ℕ) → suc t ≤ n → g (suc t) ≤ g t) → ((t : ℕ) → suc (suc t) ≤ n → g t + g (suc (suc t)) ≤ g (suc t) + g (suc t)) → Declines n f → Declines n (λ t. with_units x (g t) (f t))
+units_declines : (n x : ℕ) (g : ℕ → ℕ) (f : Course) → ((t : ℕ) → suc t ≤ n → g (suc t) ≤ g t)
+    → ((t : ℕ) → suc (suc t) ≤ n → g t + g (suc (suc t)) ≤ g (suc t) + g (suc t)) → Declines n f → Declines n (λ t. with_units x (g t) (f t))
 units_declines n x g f fall slow h = record {
   params = h.params;
   facilities = h.facilities;
@@ -118,23 +129,44 @@ units_declines n x g f fall slow h = record {
       (λ (ne : x ≢ e). omega (arith, unwritten (f t) x (g t) e ne, unwritten (f (suc t)) x (g (suc t)) e ne, h.falls t e le))
       (cases_eq x e);
   slows = λ t e le. ⊎_elim
-      (λ (q : x ≡ e). omega (arith, written (f t) x (g t) e q, written (f (suc t)) x (g (suc t)) e q, written (f (suc (suc t))) x (g (suc (suc t))) e q, slow t le))
-      (λ (ne : x ≢ e). omega (arith, unwritten (f t) x (g t) e ne, unwritten (f (suc t)) x (g (suc t)) e ne, unwritten (f (suc (suc t))) x (g (suc (suc t))) e ne, h.slows t e le))
+      (λ (q : x ≡ e). omega (
+        arith,
+        written (f t) x (g t) e q,
+        written (f (suc t)) x (g (suc t)) e q,
+        written (f (suc (suc t))) x (g (suc (suc t))) e q,
+        slow t le,
+      ))
+      (λ (ne : x ≢ e). omega (
+        arith,
+        unwritten (f t) x (g t) e ne,
+        unwritten (f (suc t)) x (g (suc t)) e ne,
+        unwritten (f (suc (suc t))) x (g (suc (suc t))) e ne,
+        h.slows t e le,
+      ))
       (cases_eq x e);
 }
 
 more_declines : (n : ℕ) (u : Units) (f : Course) → Declines n f → Declines n (λ t. with_units u.entity (units_of (f t) u.entity + u.number) (f t))
-more_declines n u f h = units_declines n u.entity (λ t. units_of (f t) u.entity + u.number) f (λ t le. omega (arith, h.falls t u.entity le)) (λ t le. omega (arith, h.slows t u.entity le)) h
+more_declines n u f h = units_declines n u.entity (λ t. units_of (f t) u.entity + u.number) f
+    (λ t le. omega (arith, h.falls t u.entity le)) (λ t le. omega (arith, h.slows t u.entity le)) h
 
 -- as many as a block asks are held at each time
 abbrev pub Holds : ℕ → Option Units → Course → Type 0
 Holds n None f = Unit {0}
 Holds n (Some u) f = u.number ≤ units_of (f n) u.entity
 
-less_declines : (n : ℕ) (u : Units) (f : Course) → Holds n (Some u) f → Declines n f → Declines n (λ t. with_units u.entity (units_of (f t) u.entity - u.number) (f t))
+less_declines : (n : ℕ) (u : Units) (f : Course) → Holds n (Some u) f → Declines n f
+    → Declines n (λ t. with_units u.entity (units_of (f t) u.entity - u.number) (f t))
 less_declines n u f g h = units_declines n u.entity (λ t. units_of (f t) u.entity - u.number) f
     (λ t le. omega (arith, h.falls t u.entity le))
-    (λ t le. omega (arith, h.slows t u.entity le, g, left_to n f h (suc (suc t)) u.entity le, left_to n f h (suc t) u.entity (omega (arith, le)), left_to n f h t u.entity (omega (arith, le))))
+    (λ t le. omega (
+      arith,
+      h.slows t u.entity le,
+      g,
+      left_to n f h (suc (suc t)) u.entity le,
+      left_to n f h (suc t) u.entity (omega (arith, le)),
+      left_to n f h t u.entity (omega (arith, le)),
+    ))
     h
 
 alone_declines : (n : ℕ) (f : Course) → Declines n f → Declines n (λ t. parameters_alone (f t))
@@ -167,7 +199,8 @@ after_declines n b block f g h = setting_declines n (parameter_set b block) f h
 -- a course of which nothing is known at first is of nothing known
 no_units : (es : List (ℕ × ℕ)) → All (λ e. e.1 ≢ 0) es → ((e : ℕ) → amount_of es e ≡ 0) → es ≡ []
 no_units [] some h = refl
-no_units (e ∷ es) some h = absurd (All-head (λ x. x.1 ≢ 0) e es some (sym (let first : amount_of (e ∷ es) e.0 ≡ e.1 = rw (eq-eqb e.0 e.0 refl) refl in first) ∙ h e.0))
+no_units (e ∷ es) some h =
+    absurd (All-head (λ x. x.1 ≢ 0) e es some (sym (let first : amount_of (e ∷ es) e.0 ≡ e.1 = rw (eq-eqb e.0 e.0 refl) refl in first) ∙ h e.0))
 
 pub nothing_stays : (n t : ℕ) (f : Course) → Declines n f → t ≤ n → f 0 ≡ nothing_known → f t ≡ f 0
 nothing_stays n t f h le is =
@@ -179,7 +212,8 @@ abbrev pub IsDecidedFor : ℕ → Option Units → Course → Type 0
 IsDecidedFor n None f = Unit {0}
 IsDecidedFor n (Some u) f = (u.number ≤ units_of (f n) u.entity) ⊎ (units_of (f 0) u.entity < u.number)
 
-units_same : (n t : ℕ) (u : Units) (f : Course) → Declines n f → t ≤ n → IsDecidedFor n (Some u) f → nat_le u.number (units_of (f t) u.entity) ≡ nat_le u.number (units_of (f 0) u.entity)
+units_same : (n t : ℕ) (u : Units) (f : Course) → Declines n f → t ≤ n → IsDecidedFor n (Some u) f
+    → nat_le u.number (units_of (f t) u.entity) ≡ nat_le u.number (units_of (f 0) u.entity)
 units_same n t u f h le (inl q) =
     le-leb u.number (units_of (f t) u.entity) (omega (arith, q, left_to n f h t u.entity le))
     ∙ sym (le-leb u.number (units_of (f 0) u.entity) (omega (arith, q, left_to n f h 0 u.entity (omega arith))))
@@ -194,7 +228,8 @@ module _ (p : Parts) (n t : ℕ) (f : Course) (h : Declines n f) (le : t ≤ n) 
   values_same : (block : Block) → value_rules p block (f t) ≡ value_rules p block (f 0)
   values_same block = ap (λ ps. flat_map (number_rules (of_params ps)) (parameters_read p (evaluation_operands p.entities block))) (h.params t)
 
-  own_same : (block : Block) → IsDecidedFor n (units_asked block) f → (is_generate (Some block) ≡ true → f 0 ≡ nothing_known) → own_rules p block (f t) ≡ own_rules p block (f 0)
+  own_same : (block : Block) → IsDecidedFor n (units_asked block) f → (is_generate (Some block) ≡ true → f 0 ≡ nothing_known)
+      → own_rules p block (f t) ≡ own_rules p block (f 0)
   own_same (blocks.Generate g) d arrives = ap (λ row. rule codes.edge_state (is_empty row) ∷ []) (nothing_stays n t f h le (arrives refl))
   own_same (blocks.Terminate by) d arrives = ap (λ (fs : List ℕ). rule codes.owns_at_end (length fs == 0) ∷ []) (h.facilities t)
   own_same (blocks.Assemble size) d arrives = ap (λ (fs : List ℕ). rule codes.owns_at_end (length fs == 0) ∷ []) (h.facilities t)
@@ -202,18 +237,24 @@ module _ (p : Parts) (n t : ℕ) (f : Course) (h : Declines n f) (le : t ≤ n) 
   own_same (blocks.Release x) d arrives = ap (λ (fs : List ℕ). rule codes.not_owner (lists fs x) ∷ []) (h.facilities t)
   own_same (blocks.Leave u) d arrives = ap (λ is. rule codes.too_few_units is ∷ []) (units_same n t u f h le d)
   own_same (blocks.Depart u) d arrives = ap (λ is. rule codes.too_few_units is ∷ []) (units_same n t u f h le d)
-  own_same (blocks.Assign a) d arrives = ap (λ (ps : List (ℕ × ParamKind)). rule codes.param_kind (replaces a.mode || not (is_return (entry ps a.parameter))) ∷ []) (h.params t)
-  own_same (blocks.TransferByParameter q) d arrives = ap (λ (ps : List (ℕ × ParamKind)). rule codes.unset_param (is_some (entry ps q)) ∷ rule codes.param_kind (is_return (entry ps q)) ∷ []) (h.params t)
-  own_same (blocks.Loop l) d arrives = ap (λ (ps : List (ℕ × ParamKind)). rule codes.unset_param (is_some (entry ps l.parameter)) ∷ rule codes.param_kind (is_number (entry ps l.parameter)) ∷ []) (h.params t)
+  own_same (blocks.Assign a) d arrives =
+      ap (λ (ps : List (ℕ × ParamKind)). rule codes.param_kind (replaces a.mode || not (is_return (entry ps a.parameter))) ∷ []) (h.params t)
+  own_same (blocks.TransferByParameter q) d arrives =
+      ap (λ (ps : List (ℕ × ParamKind)). rule codes.unset_param (is_some (entry ps q)) ∷ rule codes.param_kind (is_return (entry ps q)) ∷ []) (h.params t)
+  own_same (blocks.Loop l) d arrives =
+      ap (λ (ps : List (ℕ × ParamKind)). rule codes.unset_param (is_some (entry ps l.parameter))
+      ∷ rule codes.param_kind (is_number (entry ps l.parameter)) ∷ []) (h.params t)
   own_same block d arrives = refl
 
   -- the rules of a block are the same at each time
-  pub rules_same : (block : Block) → IsDecidedFor n (units_asked block) f → (is_generate (Some block) ≡ true → f 0 ≡ nothing_known) → rules p block (f t) ≡ rules p block (f 0)
+  pub rules_same : (block : Block) → IsDecidedFor n (units_asked block) f → (is_generate (Some block) ≡ true → f 0 ≡ nothing_known)
+      → rules p block (f t) ≡ rules p block (f 0)
   rules_same block d arrives = ap₂ (λ xs ys. xs ++ ys) (values_same block) (own_same block d arrives)
 
   -- a block leads to the same blocks
   pub exits_same : (block : Block) → exits_with (returns_read block (f t)) block ≡ exits_with (returns_read block (f 0)) block
-  exits_same (blocks.TransferByParameter q) = ap (λ (ps : List (ℕ × ParamKind)). exits_with (return_blocks (entry ps q)) (blocks.TransferByParameter q)) (h.params t)
+  exits_same (blocks.TransferByParameter q) =
+      ap (λ (ps : List (ℕ × ParamKind)). exits_with (return_blocks (entry ps q)) (blocks.TransferByParameter q)) (h.params t)
   exits_same block = refl
 
 own_hold : (xs ys : List Rule) → list_all (λ (r : Rule). r.holds) (xs ++ ys) ≡ true → list_all (λ (r : Rule). r.holds) ys ≡ true
@@ -223,11 +264,13 @@ own_hold (x ∷ xs) ys h = own_hold xs ys (and_parts x.holds (list_all (λ (r : 
 asked_held : (n : ℕ) (u : Units) (f : Course) → (nat_le u.number (units_of (f 0) u.entity) && true) ≡ true → IsDecidedFor n (Some u) f → Holds n (Some u) f
 asked_held n u f h (inl q) = q
 asked_held n u f h (inr q) =
-    let le : u.number ≤ units_of (f 0) u.entity = leb-true u.number (units_of (f 0) u.entity) (and_parts (nat_le u.number (units_of (f 0) u.entity)) true h).0 in
+    let le : u.number ≤ units_of (f 0) u.entity =
+    leb-true u.number (units_of (f 0) u.entity) (and_parts (nat_le u.number (units_of (f 0) u.entity)) true h).0 in
     absurd (omega (arith, le, q))
 
 -- where a block's rules hold at first, what it asks is held to the end
-pub rules_held : (p : Parts) (n : ℕ) (block : Block) (f : Course) → list_all (λ (r : Rule). r.holds) (rules p block (f 0)) ≡ true → IsDecidedFor n (units_asked block) f → Holds n (units_asked block) f
+pub rules_held : (p : Parts) (n : ℕ) (block : Block) (f : Course) → list_all (λ (r : Rule). r.holds) (rules p block (f 0)) ≡ true
+    → IsDecidedFor n (units_asked block) f → Holds n (units_asked block) f
 rules_held p n (blocks.Leave u) f h d = asked_held n u f (own_hold (value_rules p (blocks.Leave u) (f 0)) (own_rules p (blocks.Leave u) (f 0)) h) d
 rules_held p n (blocks.Depart u) f h d = asked_held n u f (own_hold (value_rules p (blocks.Depart u) (f 0)) (own_rules p (blocks.Depart u) (f 0)) h) d
 rules_held p n block f h d = tt
@@ -264,7 +307,8 @@ along_at : (t b : ℕ) (f : Course) (exits : List Exit) → edges_at t (flat_map
 along_at t b f [] = refl
 along_at t b f (x ∷ xs) =
     map-append (edge_at t) (course_along b f x) (flat_map (course_along b f) xs)
-    ∙ ap₂ (λ es fs. es ++ fs) (at_if t (is_used x.who) (course_edge codes.edge_state (targets.Block (leads_to b x.way)) (λ t. known_of x.who (f t)))) (along_at t b f xs)
+    ∙ ap₂ (λ es fs. es ++ fs)
+    (at_if t (is_used x.who) (course_edge codes.edge_state (targets.Block (leads_to b x.way)) (λ t. known_of x.who (f t)))) (along_at t b f xs)
 
 known_declines : (n : ℕ) (who : Who) (f : Course) → Declines n f → Declines n (λ t. known_of who (f t))
 known_declines n Itself f h = h

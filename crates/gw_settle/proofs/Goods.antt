@@ -1,5 +1,6 @@
 -- What a block sends holds entities of the right kinds, and at most 2^20 units more.
-use Rattle.std.proofs.Common.{◌≡◌, ℕ, ◌+◌, ◌-◌, ◌≤◌, List, [], ◌∷◌, ◌++◌, Option, Some, None, Bool, true, false, if◌then◌else◌, ◌==◌, ◌&&◌, not, nat_lt, nat_le, refl, sym, ap, subst, arith}
+use Rattle.std.proofs.Common.{◌≡◌, ℕ, ◌+◌, ◌-◌, ◌≤◌, List, [], ◌∷◌, ◌++◌, Option, Some, None, Bool, true, false, if◌then◌else◌, ◌==◌, ◌&&◌, not}
+use Rattle.std.proofs.Common.{nat_lt, nat_le, refl, sym, ap, subst, arith}
 use Rattle.std.specs.Prelude.{All, IfSome, IsSomeAnd, IsTrue, filter, filter_map, option_to_list, option_map}
 use Rattle.std.specs.Option.{option_map_or}
 use Rattle.std.proofs.lemmas.Bool.{false≢true, leb-true, eqb-true, and_parts}
@@ -21,7 +22,8 @@ use Rattle.gw_rules.specs.declared.set_parameters.Parameter.{Parameter}
 use Rattle.gw_rules.specs.Blocks.{FlowEdge}
 use Rattle.gw_rules.specs.declared.edges.Target.TheVariants as targets
 use Rattle.gw_rules.specs.Rows.{Row, ParamKind, units_of, nonzero, with_units, parameters_alone}
-use Rattle.gw_rules.specs.Blocks.{Table, number_in, parameter_set, with_setting, after, returns_read, move, is_used, known_of, edge_along, edges_along, edges_from, join, members_move, members_edges, chain_edges}
+use Rattle.gw_rules.specs.Blocks.{Table, number_in, parameter_set, with_setting, after, returns_read, move, is_used, known_of, edge_along}
+use Rattle.gw_rules.specs.Blocks.{edges_along, edges_from, join, members_move, members_edges, chain_edges}
 use Rattle.gw_rules.specs.Seen.{kind_seen}
 use Rattle.gw_rules.proofs.Entries.{amount-with_entry}
 use Rattle.gw_rules.proofs.Parameters.{after_params}
@@ -51,8 +53,10 @@ module _ (es : List Entity) where
   named_units : (e n : ℕ) (row : Row) → IsEntity es (needs StorageOrQueue e) → IsNamed es row → IsNamed es (with_units e n row)
   named_units e n row h g = record {
     facilities = g.facilities;
-    units = All-append Holds (filter (λ x. nat_lt x.0 e) row.units ++ option_to_list (option_map (λ v. (e, v)) (nonzero n))) (filter (λ x. nat_lt e x.0) row.units)
-        (All-append Holds (filter (λ x. nat_lt x.0 e) row.units) (option_to_list (option_map (λ v. (e, v)) (nonzero n))) (All-filter (λ x. nat_lt x.0 e) Holds row.units g.units) (one_held e (nonzero n) h))
+    units = All-append Holds (filter (λ x. nat_lt x.0 e) row.units ++ option_to_list (option_map (λ v. (e, v)) (nonzero n)))
+        (filter (λ x. nat_lt e x.0) row.units)
+        (All-append Holds (filter (λ x. nat_lt x.0 e) row.units) (option_to_list (option_map (λ v. (e, v)) (nonzero n)))
+        (All-filter (λ x. nat_lt x.0 e) Holds row.units g.units) (one_held e (nonzero n) h))
         (All-filter (λ x. nat_lt e x.0) Holds row.units g.units);
   }
 
@@ -67,14 +71,24 @@ module _ (es : List Entity) where
   named_after b (blocks.Seize f) row h g = record {
     facilities = All-append Owns (filter (λ m. nat_lt m f) row.facilities) (f ∷ filter (λ m. nat_lt f m) row.facilities)
         (All-filter (λ m. nat_lt m f) Owns row.facilities g.facilities)
-        (All-cons Owns f (filter (λ m. nat_lt f m) row.facilities) (All-head (IsEntity es) (needs Facility f) (filter_map entity_of (values (blocks.Seize f))) h) (All-filter (λ m. nat_lt f m) Owns row.facilities g.facilities));
+        (All-cons Owns f (filter (λ m. nat_lt f m) row.facilities)
+        (All-head (IsEntity es) (needs Facility f) (filter_map entity_of (values (blocks.Seize f))) h)
+        (All-filter (λ m. nat_lt f m) Owns row.facilities g.facilities));
     units = g.units;
   }
   named_after b (blocks.Release f) row h g = record { facilities = All-filter (λ m. not (m == f)) Owns row.facilities g.facilities; units = g.units }
-  named_after b (blocks.Enter u) row h g = named_units u.entity (units_of row u.entity + u.number) row (storage_is (kind_at es u.entity) (All-head (IsEntity es) (needs Storage u.entity) (filter_map entity_of (values (blocks.Enter u))) h)) g
-  named_after b (blocks.Leave u) row h g = named_units u.entity (units_of row u.entity - u.number) row (storage_is (kind_at es u.entity) (All-head (IsEntity es) (needs Storage u.entity) (filter_map entity_of (values (blocks.Leave u))) h)) g
-  named_after b (blocks.Queue u) row h g = named_units u.entity (units_of row u.entity + u.number) row (queue_is (kind_at es u.entity) (All-head (IsEntity es) (needs Queue u.entity) (filter_map entity_of (values (blocks.Queue u))) h)) g
-  named_after b (blocks.Depart u) row h g = named_units u.entity (units_of row u.entity - u.number) row (queue_is (kind_at es u.entity) (All-head (IsEntity es) (needs Queue u.entity) (filter_map entity_of (values (blocks.Depart u))) h)) g
+  named_after b (blocks.Enter u) row h g =
+      named_units u.entity (units_of row u.entity + u.number) row
+      (storage_is (kind_at es u.entity) (All-head (IsEntity es) (needs Storage u.entity) (filter_map entity_of (values (blocks.Enter u))) h)) g
+  named_after b (blocks.Leave u) row h g =
+      named_units u.entity (units_of row u.entity - u.number) row
+      (storage_is (kind_at es u.entity) (All-head (IsEntity es) (needs Storage u.entity) (filter_map entity_of (values (blocks.Leave u))) h)) g
+  named_after b (blocks.Queue u) row h g =
+      named_units u.entity (units_of row u.entity + u.number) row
+      (queue_is (kind_at es u.entity) (All-head (IsEntity es) (needs Queue u.entity) (filter_map entity_of (values (blocks.Queue u))) h)) g
+  named_after b (blocks.Depart u) row h g =
+      named_units u.entity (units_of row u.entity - u.number) row
+      (queue_is (kind_at es u.entity) (All-head (IsEntity es) (needs Queue u.entity) (filter_map entity_of (values (blocks.Depart u))) h)) g
   named_after b block row h g = named_set (parameter_set b block) row g
 
 -- CALLS
@@ -82,10 +96,12 @@ module _ (es : List Entity) where
 abbrev Calls : List Block → ℕ × ParamKind → Type 0
 Calls bs e = KindNamesCalls bs e.1
 
-set_calls : (bs : List Block) (set : Option Parameter) (row : Row) → IfSome set (λ (s : Parameter). KindNamesCalls bs (kind_seen [] s.kind)) → NamesCalls bs row → NamesCalls bs (with_setting set row)
+set_calls : (bs : List Block) (set : Option Parameter) (row : Row)
+    → IfSome set (λ (s : Parameter). KindNamesCalls bs (kind_seen [] s.kind)) → NamesCalls bs row → NamesCalls bs (with_setting set row)
 set_calls bs None row h g = g
 set_calls bs (Some set) row h g =
-    All-append (Calls bs) (filter (λ e. nat_lt e.0 set.number) row.params ++ (set.number, kind_seen [] set.kind) ∷ []) (filter (λ e. nat_lt set.number e.0) row.params)
+    All-append (Calls bs) (filter (λ e. nat_lt e.0 set.number) row.params ++ (set.number, kind_seen [] set.kind) ∷ [])
+    (filter (λ e. nat_lt set.number e.0) row.params)
     (All-append (Calls bs) (filter (λ e. nat_lt e.0 set.number) row.params) ((set.number, kind_seen [] set.kind) ∷ [])
     (All-filter (λ e. nat_lt e.0 set.number) (Calls bs) row.params g)
     (All-cons (Calls bs) (set.number, kind_seen [] set.kind) [] h (All-nil (Calls bs))))
@@ -95,9 +111,11 @@ number_calls : (bs : List Block) (q : Option ℕ) → IfSome (option_map number_
 number_calls bs None = tt
 number_calls bs (Some q) = tt
 
-own_calls : (bs : List Block) (b : ℕ) (block : Block) → block_at bs b ≡ Some block → IfSome (parameter_set b block) (λ (s : Parameter). KindNamesCalls bs (kind_seen [] s.kind))
+own_calls : (bs : List Block) (b : ℕ) (block : Block) → block_at bs b ≡ Some block
+    → IfSome (parameter_set b block) (λ (s : Parameter). KindNamesCalls bs (kind_seen [] s.kind))
 own_calls bs b (blocks.Assign a) is = tt
-own_calls bs b (blocks.TransferToSubroutine c) is = All-cons (λ n. is_call_at bs n ≡ true) b [] (ap (λ o. option_map_or is_call o false) is) (All-nil (λ n. is_call_at bs n ≡ true))
+own_calls bs b (blocks.TransferToSubroutine c) is =
+    All-cons (λ n. is_call_at bs n ≡ true) b [] (ap (λ o. option_map_or is_call o false) is) (All-nil (λ n. is_call_at bs n ≡ true))
 own_calls bs b (blocks.Mark q) is = number_calls bs q
 own_calls bs b (blocks.Plus a) is = number_calls bs a.parameter
 own_calls bs b block is = tt
@@ -164,12 +182,15 @@ module _ (P : Row → Type 0) where
   at_members to None h = All-nil At
   at_members to (Some members) h = All-cons At (record (move to members) { code = 26 }) [] h (All-nil At)
 
-  at_chains : (table : Table) (block : Block) (row : Row) → ChainUse block → P row → ((e : ℕ) → IfSome (table (targets.Chain e)) P) → All At (chain_edges table block row)
+  at_chains : (table : Table) (block : Block) (row : Row) → ChainUse block → P row → ((e : ℕ) → IfSome (table (targets.Chain e)) P)
+      → All At (chain_edges table block row)
   at_chains table _ row (Links l) h g = All-cons At (join l.chain row) [] h (All-nil At)
   at_chains table _ row (Unlinks u) h g = at_members u.target (table (targets.Chain u.chain)) (g u.chain)
-  at_chains table block row (Neither none members) h g = subst (λ es. All At (es ++ members_edges table block)) (sym (none row)) (subst (All At) (sym (members table)) (All-nil At))
+  at_chains table block row (Neither none members) h g =
+      subst (λ es. All At (es ++ members_edges table block)) (sym (none row)) (subst (All At) (sym (members table)) (All-nil At))
 
-  pub at_edges : (table : Table) (b : ℕ) (block : Block) (row : Row) → P row → P (after b block row) → P (parameters_alone (after b block row)) → ((e : ℕ) → IfSome (table (targets.Chain e)) P) →
+  pub at_edges : (table : Table) (b : ℕ) (block : Block) (row : Row) → P row → P (after b block row)
+      → P (parameters_alone (after b block row)) → ((e : ℕ) → IfSome (table (targets.Chain e)) P) →
       All At (edges_from b block row ++ chain_edges table block row)
   at_edges table b block row here passed copies chains =
       All-append At (edges_from b block row) (chain_edges table block row)
@@ -177,4 +198,8 @@ module _ (P : Row → Type 0) where
       (at_chains table block row (chain_use block) here chains)
 
 pub named_alone : (es : List Entity) (row : Row) → IsNamed es (parameters_alone row)
-named_alone es row = record { facilities = All-nil (λ f. IsEntity es (needs Facility f)); units = All-nil (λ (e : ℕ × ℕ). IsEntity es (needs StorageOrQueue e.0)) }
+named_alone es row = record {
+  facilities = All-nil (λ f. IsEntity es (needs Facility f));
+  units =
+      All-nil (λ (e : ℕ × ℕ). IsEntity es (needs StorageOrQueue e.0));
+}

@@ -1,5 +1,6 @@
 -- Joins are the greatest below both.
-use Rattle.std.proofs.Common.{◌≡◌, ◌≢◌, ⊎_elim, ◌⊎◌, ℕ, ◌<◌, List, [], ◌∷◌, ◌++◌, Option, Some, None, Bool, true, false, refl, sym, ap, ◌∙◌, subst, arith, ◌==◌, ◌&&◌, ◌||◌, nat_lt, min}
+use Rattle.std.proofs.Common.{◌≡◌, ◌≢◌, ⊎_elim, ◌⊎◌, ℕ, ◌<◌, List, [], ◌∷◌, ◌++◌, Option, Some, None, Bool, true, false, refl, sym, ap, ◌∙◌, subst}
+use Rattle.std.proofs.Common.{arith, ◌==◌, ◌&&◌, ◌||◌, nat_lt, min}
 use Rattle.std.specs.Prelude.{IsTrue, unwrap_or, filter}
 use Rattle.std.specs.List.{list_all}
 use Rattle.std.proofs.lemmas.List.Folds.{list_any-append}
@@ -54,7 +55,8 @@ in_either ns ms b has = or_cases (lists ns b) (lists ms b) (sym (lists-united ns
 pub included_from : (bs cs : List ℕ) → ((b : ℕ) → lists bs b ≡ true → lists cs b ≡ true) → list_all (λ b. lists cs b) bs ≡ true
 included_from [] cs h = refl
 included_from (x ∷ bs) cs h =
-    and_from (lists cs x) (list_all (λ b. lists cs b) bs) (h x (or_left (x == x) (lists bs x) (eq-eqb x x refl))) (included_from bs cs (λ b q. h b (or_right (x == b) (lists bs b) q)))
+    and_from (lists cs x) (list_all (λ b. lists cs b) bs) (h x (or_left (x == x) (lists bs x) (eq-eqb x x refl)))
+    (included_from bs cs (λ b q. h b (or_right (x == b) (lists bs b) q)))
 
 -- WHAT IS KEPT
 
@@ -106,7 +108,8 @@ amount_kept None n = omega arith
 amount_kept (Some m) n = nonzero_is (min m n)
 
 pub units_joined : (row state : Row) (e : ℕ) → units_of (join_rows row state) e ≡ min (units_of row e) (units_of state e)
-units_joined row state e = ap (λ o. unwrap_or o 0) (entry-keep (λ x. nonzero (min (units_of row x) (units_of state x))) row.units e) ∙ amount_kept (entry row.units e) (units_of state e)
+units_joined row state e = ap (λ o. unwrap_or o 0) (entry-keep (λ x. nonzero (min (units_of row x) (units_of state x))) row.units e)
+    ∙ amount_kept (entry row.units e) (units_of state e)
 
 -- KINDS
 
@@ -127,7 +130,8 @@ both_fit : (k l o : Option ParamKind) → IsTrue (kind_fits k o) → IsTrue (kin
 both_fit k l None h g = refl
 both_fit (Some Num) (Some Num) (Some Num) h g = refl
 both_fit (Some (Ret bs)) (Some (Ret cs)) (Some (Ret ds)) h g =
-    included_from (union_of bs cs) ds (λ b has. ⊎_elim (λ (x : lists bs b ≡ true). included bs ds h b x) (λ (x : lists cs b ≡ true). included cs ds g b x) (in_either bs cs b has))
+    included_from (union_of bs cs) ds
+    (λ b has. ⊎_elim (λ (x : lists bs b ≡ true). included bs ds h b x) (λ (x : lists cs b ≡ true). included cs ds g b x) (in_either bs cs b has))
 both_fit None l (Some o) h g = absurd (false≢true h)
 both_fit (Some Num) None (Some o) h g = absurd (false≢true g)
 both_fit (Some (Ret bs)) None (Some o) h g = absurd (false≢true g)
@@ -153,6 +157,7 @@ join_is_below_both row state = (
 
 pub join_is_greatest : JoinIsGreatest
 join_is_greatest row state other a b = record {
-  params = λ p. subst (λ k. IsTrue (kind_fits k (kind_of other p))) (sym (kind_joined row state p)) (both_fit (kind_of row p) (kind_of state p) (kind_of other p) (a.params p) (b.params p));
+  params = λ p. subst (λ k. IsTrue (kind_fits k (kind_of other p))) (sym (kind_joined row state p))
+      (both_fit (kind_of row p) (kind_of state p) (kind_of other p) (a.params p) (b.params p));
   units = λ e. omega (arith, units_joined row state e, a.units e, b.units e);
 }

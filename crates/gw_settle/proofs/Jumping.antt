@@ -1,5 +1,6 @@
 -- Many rounds at once are what so many rounds give.
-use Rattle.std.proofs.Common.{◌≡◌, ◌≢◌, ◌⊎◌, inl, inr, ⊎_elim, ℕ, zero, suc, ◌≤◌, ◌<◌, List, [], ◌∷◌, map, length, Option, Some, None, Bool, true, false, if◌then◌else◌, refl, sym, ap, subst, ◌∙◌, arith}
+use Rattle.std.proofs.Common.{◌≡◌, ◌≢◌, ◌⊎◌, inl, inr, ⊎_elim, ℕ, zero, suc, ◌≤◌, ◌<◌, List, [], ◌∷◌, map, length, Option, Some, None, Bool, true}
+use Rattle.std.proofs.Common.{false, if◌then◌else◌, refl, sym, ap, subst, ◌∙◌, arith}
 use Rattle.std.specs.Prelude.{All, IsSomeAnd}
 use Rattle.std.proofs.lemmas.Bool.{cases_lt}
 use Rattle.std.proofs.lemmas.List.{length-map}
@@ -15,9 +16,11 @@ use Rattle.gw_settle.specs.Rounds.{TableRows, as_table, visited_to, round, start
 use Rattle.gw_settle.specs.Keeps.{HasShape, IsWell, AreKept, absent_in, absent}
 use Rattle.gw_settle.specs.Jumps.{further, rows_after, row_in, units_asked, MayJump, HasJumped}
 use Rattle.gw_settle.proofs.Courses.{Course, IsDecidedFor}
-use Rattle.gw_settle.proofs.CourseRounds.{CourseRows, place_at, places_at, rows_at, PlaceDeclines, AllDecline, course_of, table_at, IsReadyIn, IsReadyAt, IsReady, course_visited_to, AreVisited, visited_more}
+use Rattle.gw_settle.proofs.CourseRounds.{CourseRows, place_at, places_at, rows_at, PlaceDeclines, AllDecline, course_of, table_at, IsReadyIn}
+use Rattle.gw_settle.proofs.CourseRounds.{IsReadyAt, IsReady, course_visited_to, AreVisited, visited_more}
 use Rattle.gw_settle.proofs.Lowered.{IsLower, AreLower, lower_visited, lower_later, lower_of}
-use Rattle.gw_settle.proofs.Slopes.{courses_after, places_are, places_decline, leaves_if_falls, Ordered, places_stay, stay_leaves, places_not, places_once, places_fall_on}
+use Rattle.gw_settle.proofs.Slopes.{courses_after, places_are, places_decline, leaves_if_falls, Ordered, places_stay, stay_leaves, places_not}
+use Rattle.gw_settle.proofs.Slopes.{places_once, places_fall_on}
 use Rattle.gw_settle.proofs.Kept.{visited_keep}
 use Rattle.gw_settle.proofs.Reached.{reached_kept}
 
@@ -28,20 +31,25 @@ ready_at n None c h = tt
 ready_at n (Some block) None h = tt
 ready_at n (Some block) (Some f) h = h block f refl refl
 
-decided_for : (n : ℕ) (asked : Option Units) (f : Course) → ((u : Units) → asked ≡ Some u → (u.number ≤ units_of (f n) u.entity) ⊎ (units_of (f 0) u.entity < u.number)) → IsDecidedFor n asked f
+decided_for : (n : ℕ) (asked : Option Units) (f : Course)
+    → ((u : Units) → asked ≡ Some u → (u.number ≤ units_of (f n) u.entity) ⊎ (units_of (f 0) u.entity < u.number)) → IsDecidedFor n asked f
 decided_for n None f h = tt
 decided_for n (Some u) f h = h u refl
 
 -- whether a block's rule on units holds is decided for the course of its row
 abbrev AreDecidedAt : Parts → ℕ → CourseRows → ℕ → Type 0
-AreDecidedAt p n cs b = (block : Block) (u : Units) (f : Course) → block_at p.blocks b ≡ Some block → units_asked block ≡ Some u → course_of p cs (targets.Block b) ≡ Some f → (u.number ≤ units_of (f n) u.entity) ⊎ (units_of (f 0) u.entity < u.number)
+AreDecidedAt p n cs b = (block : Block) (u : Units) (f : Course) → block_at p.blocks b ≡ Some block → units_asked block ≡ Some u
+    → course_of p cs (targets.Block b) ≡ Some f → (u.number ≤ units_of (f n) u.entity) ⊎ (units_of (f 0) u.entity < u.number)
 
 module _ (p : Parts) (n : ℕ) (near : TableRows) (cs : CourseRows) (well : IsWell p) (kept : AreKept p near) (first : rows_at 0 cs ≡ near) where
   -- a row in mid-round is what its course says
-  said_at : (k t : ℕ) (b : ℕ) (f : Course) → AreVisited p n k cs → t ≤ n → course_of p (course_visited_to p k cs) (targets.Block b) ≡ Some f → as_table p (visited_to p k (rows_at t cs)) (targets.Block b) ≡ Some (f t)
-  said_at k t b f h le is = ap (λ rows. as_table p rows (targets.Block b)) (sym (h.rows t le)) ∙ table_at p t (course_visited_to p k cs) (targets.Block b) ∙ ap (place_at t) is
+  said_at : (k t : ℕ) (b : ℕ) (f : Course) → AreVisited p n k cs → t ≤ n → course_of p (course_visited_to p k cs) (targets.Block b)
+      ≡ Some f → as_table p (visited_to p k (rows_at t cs)) (targets.Block b) ≡ Some (f t)
+  said_at k t b f h le is = ap (λ rows. as_table p rows (targets.Block b)) (sym (h.rows t le))
+      ∙ table_at p t (course_visited_to p k cs) (targets.Block b) ∙ ap (place_at t) is
 
-  arrives_at : (k : ℕ) (b : ℕ) (block : Block) (f : Course) → AreVisited p n k cs → block_at p.blocks b ≡ Some block → course_of p (course_visited_to p k cs) (targets.Block b) ≡ Some f → is_generate (Some block) ≡ true → f 0 ≡ nothing_known
+  arrives_at : (k : ℕ) (b : ℕ) (block : Block) (f : Course) → AreVisited p n k cs → block_at p.blocks b ≡ Some block
+      → course_of p (course_visited_to p k cs) (targets.Block b) ≡ Some f → is_generate (Some block) ≡ true → f 0 ≡ nothing_known
   arrives_at k b block f h there is generates =
       let here : Some (f 0) ≡ Some nothing_known =
       sym (said_at k 0 b f h (omega arith) is)
@@ -77,7 +85,8 @@ ordered_at n t cs h = record {
 abbrev staying : TableRows → CourseRows
 staying rows = record { blocks = courses_after rows.blocks []; chains = courses_after rows.chains [] }
 
-both_same : {bs cs ds es : List (Option Row)} → bs ≡ cs → ds ≡ es → ◌≡◌ {A = TableRows} (record { blocks = bs; chains = ds }) (record { blocks = cs; chains = es })
+both_same : {bs cs ds es : List (Option Row)} → bs ≡ cs → ds ≡ es
+    → ◌≡◌ {A = TableRows} (record { blocks = bs; chains = ds }) (record { blocks = cs; chains = es })
 both_same h g = rw (h, g) refl
 
 staying_are : (t : ℕ) (rows : TableRows) → rows_at t (staying rows) ≡ rows
@@ -98,12 +107,14 @@ module _ (p : Parts) (rows : TableRows) (well : IsWell p) (kept : AreKept p rows
       let h = staying_visited k in
       visited_more p 0 k (staying rows) h
       (ready p 0 rows (staying rows) well kept (staying_are 0 rows) k h
-      (λ block u f there asks is. ⊎_elim (λ (lt : units_of (f 0) u.entity < u.number). inr lt) (λ (le : u.number ≤ units_of (f 0) u.entity). inl le) (cases_lt (units_of (f 0) u.entity) u.number)))
+      (λ block u f there asks is. ⊎_elim (λ (lt : units_of (f 0) u.entity < u.number). inr lt)
+      (λ (le : u.number ≤ units_of (f 0) u.entity). inl le) (cases_lt (units_of (f 0) u.entity) u.number)))
 
   round_ordered : AllOrdered (round p rows)
   round_ordered =
       let h = staying_visited (length p.blocks) in
-      subst AllOrdered (h.rows 0 (omega arith) ∙ ap (visited_to p (length p.blocks)) (staying_are 0 rows)) (ordered_at 0 0 (course_visited_to p (length p.blocks) (staying rows)) h.decline)
+      subst AllOrdered (h.rows 0 (omega arith) ∙ ap (visited_to p (length p.blocks)) (staying_are 0 rows))
+      (ordered_at 0 0 (course_visited_to p (length p.blocks) (staying rows)) h.decline)
 
 nothing_ordered : IsOrdered nothing_known
 nothing_ordered = record {
@@ -146,7 +157,8 @@ falling_are : (t : ℕ) (near next : TableRows) → rows_at t (falling near next
 falling_are t near next = both_same (places_are t near.blocks next.blocks) (places_are t near.chains next.chains)
 
 module _ (p : Parts) (n : ℕ) (near next second last : TableRows) (well : IsWell p) (reached : AreReached p near) (some : 0 < n)
-    (is_next : next ≡ round p near) (is_second : second ≡ round p next) (is_last : last ≡ round p (rows_after n near next)) (may : MayJump p n near next second last) where
+    (is_next : next ≡ round p near) (is_second : second ≡ round p next) (is_last : last ≡ round p (rows_after n near next))
+    (may : MayJump p n near next second last) where
   abbrev cs : CourseRows
   cs = falling near next
 
@@ -176,8 +188,10 @@ module _ (p : Parts) (n : ℕ) (near next second last : TableRows) (well : IsWel
 
   decline : AllDecline n cs
   decline = record {
-    blocks = places_decline n near.blocks next.blocks up.blocks (λ i. leaves_if_falls n (row_in near.blocks i) (row_in next.blocks i) (row_in second.blocks i) (row_in last.blocks i) (may.blocks i));
-    chains = places_decline n near.chains next.chains up.chains (λ i. leaves_if_falls n (row_in near.chains i) (row_in next.chains i) (row_in second.chains i) (row_in last.chains i) (may.chains i));
+    blocks = places_decline n near.blocks next.blocks up.blocks
+        (λ i. leaves_if_falls n (row_in near.blocks i) (row_in next.blocks i) (row_in second.blocks i) (row_in last.blocks i) (may.blocks i));
+    chains = places_decline n near.chains next.chains up.chains
+        (λ i. leaves_if_falls n (row_in near.chains i) (row_in next.chains i) (row_in second.chains i) (row_in last.chains i) (may.chains i));
   }
 
   at_first : rows_at 0 cs ≡ near
@@ -190,27 +204,35 @@ module _ (p : Parts) (n : ℕ) (near next second last : TableRows) (well : IsWel
 
   -- RULES ON UNITS
 
-  from_near : (u : Units) (f : Course) (there : Option Row) → IsLower (Some (f 0)) there → IsSomeAnd there (λ row. units_of row u.entity < u.number) → units_of (f 0) u.entity < u.number
+  from_near : (u : Units) (f : Course) (there : Option Row) → IsLower (Some (f 0)) there
+      → IsSomeAnd there (λ row. units_of row u.entity < u.number) → units_of (f 0) u.entity < u.number
   from_near u f None h g = absurd g
   from_near u f (Some row) h g = omega (arith, h u.entity, g)
 
-  by_last : (b : ℕ) (block : Block) (u : Units) (f : Course) (there : Option Row) → block_at p.blocks b ≡ Some block → units_asked block ≡ Some u → as_table p last (targets.Block b) ≡ there → IsLower there (Some (f n)) → IsLower (Some (f 0)) (as_table p near (targets.Block b)) → (u.number ≤ units_of (f n) u.entity) ⊎ (units_of (f 0) u.entity < u.number)
+  by_last : (b : ℕ) (block : Block) (u : Units) (f : Course) (there : Option Row) → block_at p.blocks b ≡ Some block → units_asked block
+      ≡ Some u → as_table p last (targets.Block b) ≡ there → IsLower there (Some (f n))
+      → IsLower (Some (f 0)) (as_table p near (targets.Block b)) → (u.number ≤ units_of (f n) u.entity) ⊎ (units_of (f 0) u.entity < u.number)
   by_last b block u f None is asks has low high = absurd low
   by_last b block u f (Some row) is asks has low high =
       ⊎_elim
       (λ (le : u.number ≤ units_of row u.entity). inl (omega (arith, le, low u.entity)))
-      (λ (less : IsSomeAnd (as_table p near (targets.Block b)) (λ x. units_of x u.entity < u.number)). inr (from_near u f (as_table p near (targets.Block b)) high less))
+      (λ (less : IsSomeAnd (as_table p near (targets.Block b)) (λ x. units_of x u.entity < u.number)). inr
+      (from_near u f (as_table p near (targets.Block b)) high less))
       (may.decided b block is u row asks has)
 
   decided_at : (k : ℕ) → k ≤ length p.blocks → AreVisited p n k cs → AreDecidedAt p n (course_visited_to p k cs) (suc k)
   decided_at k le h block u f is asks has =
       let b = suc k in
-      let here_first : as_table p (visited_to p k near) (targets.Block b) ≡ Some (f 0) = ap (λ rows. as_table p (visited_to p k rows) (targets.Block b)) (sym at_first) ∙ said_at p n near cs well kept at_first k 0 b f h (omega arith) has in
-      let here_last : as_table p (visited_to p k (rows_after n near next)) (targets.Block b) ≡ Some (f n) = ap (λ rows. as_table p (visited_to p k rows) (targets.Block b)) (sym (falling_are n near next)) ∙ said_at p n near cs well kept at_first k n b f h (omega arith) has in
+      let here_first : as_table p (visited_to p k near) (targets.Block b) ≡ Some (f 0) =
+      ap (λ rows. as_table p (visited_to p k rows) (targets.Block b)) (sym at_first) ∙ said_at p n near cs well kept at_first k 0 b f h (omega arith) has in
+      let here_last : as_table p (visited_to p k (rows_after n near next)) (targets.Block b) ≡ Some (f n) =
+      ap (λ rows. as_table p (visited_to p k rows) (targets.Block b)) (sym (falling_are n near next))
+      ∙ said_at p n near cs well kept at_first k n b f h (omega arith) has in
       let low : IsLower (as_table p last (targets.Block b)) (Some (f n)) =
       subst (λ x. IsLower (as_table p last (targets.Block b)) x) here_last
       (subst (λ rows. IsLower (as_table p rows (targets.Block b)) (as_table p (visited_to p k (rows_after n near next)) (targets.Block b))) (sym is_last)
-      (lower_of p b (round p (rows_after n near next)) (visited_to p k (rows_after n near next)) (lower_later p k (length p.blocks) (rows_after n near next) le))) in
+      (lower_of p b (round p (rows_after n near next)) (visited_to p k (rows_after n near next))
+      (lower_later p k (length p.blocks) (rows_after n near next) le))) in
       let high : IsLower (Some (f 0)) (as_table p near (targets.Block b)) =
       subst (λ x. IsLower x (as_table p near (targets.Block b))) here_first (lower_of p b (visited_to p k near) near (lower_visited p k near)) in
       by_last b block u f (as_table p last (targets.Block b)) is asks refl low high
@@ -244,8 +266,12 @@ module _ (p : Parts) (n : ℕ) (near next second last : TableRows) (well : IsWel
   step t le =
       falling_are (suc t) near next
       ∙ both_same
-      (places_fall_on n t near.blocks next.blocks second.blocks last.blocks final.blocks some le (as_long final.blocks near.blocks next.blocks (ap blocks_in final_first) (shape.blocks ∙ sym next_shape.blocks)) up.blocks whole.decline.blocks may.blocks lower.blocks (ap blocks_in final_first) (ap blocks_in final_second) (ap blocks_in final_last))
-      (places_fall_on n t near.chains next.chains second.chains last.chains final.chains some le (as_long final.chains near.chains next.chains (ap chains_in_rows final_first) (shape.chains ∙ sym next_shape.chains)) up.chains whole.decline.chains may.chains lower.chains (ap chains_in_rows final_first) (ap chains_in_rows final_second) (ap chains_in_rows final_last))
+      (places_fall_on n t near.blocks next.blocks second.blocks last.blocks final.blocks some le
+      (as_long final.blocks near.blocks next.blocks (ap blocks_in final_first) (shape.blocks ∙ sym next_shape.blocks)) up.blocks
+      whole.decline.blocks may.blocks lower.blocks (ap blocks_in final_first) (ap blocks_in final_second) (ap blocks_in final_last))
+      (places_fall_on n t near.chains next.chains second.chains last.chains final.chains some le
+      (as_long final.chains near.chains next.chains (ap chains_in_rows final_first) (shape.chains ∙ sym next_shape.chains)) up.chains
+      whole.decline.chains may.chains lower.chains (ap chains_in_rows final_first) (ap chains_in_rows final_second) (ap chains_in_rows final_last))
       ∙ whole.rows t (omega (arith, le))
 
   course_reached : (t : ℕ) → t ≤ n → rows_at t cs ≡ further p t near

@@ -1,5 +1,6 @@
 -- What the rounds keep.
-use Rattle.std.proofs.Common.{◌≡◌, ◌⊎◌, inl, inr, ⊎_elim, ℕ, zero, suc, ◌+◌, ◌*◌, ◌<◌, ◌≤◌, List, [], ◌∷◌, map, length, replicate, get_or, Option, Some, None, Bool, true, false, not, ◌==◌, if◌then◌else◌, refl, sym, ap, subst, ◌∙◌, arith}
+use Rattle.std.proofs.Common.{◌≡◌, ◌⊎◌, inl, inr, ⊎_elim, ℕ, zero, suc, ◌+◌, ◌*◌, ◌<◌, ◌≤◌, List, [], ◌∷◌, map, length, replicate, get_or, Option}
+use Rattle.std.proofs.Common.{Some, None, Bool, true, false, not, ◌==◌, if◌then◌else◌, refl, sym, ap, subst, ◌∙◌, arith}
 use Rattle.std.specs.Prelude.{All, IfSome, IsSomeAnd, IsTrue, slice_get, option_to_list, filter_map, cond}
 use Rattle.std.specs.List.{list_all}
 use Rattle.std.specs.Option.{option_flatten, option_map, option_map_or}
@@ -32,7 +33,8 @@ use Rattle.gw_rules.specs.Blocks.{Table, Rule, rules, after, edges}
 use Rattle.gw_rules.specs.Flow.{FlowPasses}
 use Rattle.gw_settle.specs.Joins.{is_within, joined_kind, join_rows, with_state}
 use Rattle.gw_settle.specs.Rounds.{TableRows, as_table, send_edge, all_sent, sends_in, sends, visit_block, visited_to, start_row, start}
-use Rattle.gw_settle.specs.Keeps.{NoneChanged, IsOnePlace, IsByPlace, IsBelow, may_enter, MayEnter, sets_return, IsKindGrounded, IsGrounded, IsNamed, KindNamesCalls, NamesCalls, absent, HasFew, IsGood, HasShape, IsWell, AreSound, AreKept}
+use Rattle.gw_settle.specs.Keeps.{NoneChanged, IsOnePlace, IsByPlace, IsBelow, may_enter, MayEnter, sets_return, IsKindGrounded, IsGrounded, IsNamed}
+use Rattle.gw_settle.specs.Keeps.{KindNamesCalls, NamesCalls, absent, HasFew, IsGood, HasShape, IsWell, AreSound, AreKept}
 use Rattle.gw_settle.proofs.Joining.{units_joined}
 use Rattle.gw_settle.proofs.Ordering.{keep_all, given_all}
 use Rattle.gw_settle.proofs.Rows.{lookup_sent, shape_sent, absent_sent, fewer_sent, absent_length, by_place, if_has, with_state_has, at_target, all_sent_to}
@@ -60,7 +62,8 @@ FitsEach p e = NoneChanged p → (t : Table) → IsByPlace p t → FlowPasses p 
 
 -- what is kept is sound
 pub sound_if_kept : (p : Parts) (rows : TableRows) → AreKept p rows → AreSound p rows
-sound_if_kept p rows h = record { shape = h.shape; grounded = h.good.grounded; named = h.named; block_calls = h.block_calls; chain_calls = h.chain_calls; few = h.few }
+sound_if_kept p rows h =
+    record { shape = h.shape; grounded = h.good.grounded; named = h.named; block_calls = h.block_calls; chain_calls = h.chain_calls; few = h.few }
 
 below_if : (row there : Option Row) → IsBelow row there → IfSome row (λ r. IsSomeAnd there (Fits r))
 below_if None there h = tt
@@ -81,7 +84,8 @@ is_called (Some block) q h = absurd (false≢true h)
 
 all_listed : (P : ℕ → Type 0) (bs : List ℕ) → ((b : ℕ) → lists bs b ≡ true → P b) → All P bs
 all_listed P [] h = All-nil P
-all_listed P (x ∷ bs) h = All-cons P x bs (h x (or_left (x == x) (lists bs x) (eq-eqb x x refl))) (all_listed P bs (λ b has. h b (or_right (x == b) (lists bs b) has)))
+all_listed P (x ∷ bs) h =
+    All-cons P x bs (h x (or_left (x == x) (lists bs x) (eq-eqb x x refl))) (all_listed P bs (λ b has. h b (or_right (x == b) (lists bs b) has)))
 
 kind_calls : (p : Parts) (q : ℕ) (kind : ParamKind) → IsKindGrounded p q (Some kind) → KindNamesCalls p.blocks kind
 kind_calls p q Num h = tt
@@ -124,17 +128,20 @@ module _ (p : Parts) (e : FlowEdge) (rows : TableRows) (sound : AreSound p rows)
   grounded_sent x = ⊎_elim
       (λ (q : s' x ≡ s x). subst (λ row. IfSome row (IsGrounded p)) (sym q) (sound.grounded x))
       (λ (q : IsOnePlace p.entities e.target x × (s' x ≡ Some (with_state e.state (s x)))).
-      subst (λ row. IfSome row (IsGrounded p)) (sym q.1) (with_state_has (IsGrounded p) e.state (s x) (sound.grounded x) may.grounded (λ r h g. grounded_joined p r e.state h g)))
+      subst (λ row. IfSome row (IsGrounded p)) (sym q.1)
+      (with_state_has (IsGrounded p) e.state (s x) (sound.grounded x) may.grounded (λ r h g. grounded_joined p r e.state h g)))
       (looked x)
 
   named_sent : (x : Target) → IfSome (s' x) (IsNamed p.entities)
   named_sent x = ⊎_elim
       (λ (q : s' x ≡ s x). subst (λ row. IfSome row (IsNamed p.entities)) (sym q) (sound.named x))
       (λ (q : IsOnePlace p.entities e.target x × (s' x ≡ Some (with_state e.state (s x)))).
-      subst (λ row. IfSome row (IsNamed p.entities)) (sym q.1) (with_state_has (IsNamed p.entities) e.state (s x) (sound.named x) may.named (λ r h g. named_joined p.entities r e.state h)))
+      subst (λ row. IfSome row (IsNamed p.entities)) (sym q.1)
+      (with_state_has (IsNamed p.entities) e.state (s x) (sound.named x) may.named (λ r h g. named_joined p.entities r e.state h)))
       (looked x)
 
-  calls_sent : All (λ row. IfSome row (NamesCalls p.blocks)) (send_edge p e rows).blocks × All (λ row. IfSome row (NamesCalls p.blocks)) (send_edge p e rows).chains
+  calls_sent : All (λ row. IfSome row (NamesCalls p.blocks)) (send_edge p e rows).blocks
+      × All (λ row. IfSome row (NamesCalls p.blocks)) (send_edge p e rows).chains
   calls_sent =
       all_sent_to p (NamesCalls p.blocks) e.state e.target rows sound.block_calls sound.chain_calls
       (with_state_has (CallsWell p) e.state (s e.target)
@@ -160,7 +167,14 @@ module _ (p : Parts) (e : FlowEdge) (rows : TableRows) (sound : AreSound p rows)
       (looked x)
 
   pub sound_sent : AreSound p (send_edge p e rows)
-  sound_sent = record { shape = shape_sent p e rows sound.shape; grounded = grounded_sent; named = named_sent; block_calls = calls_sent.0; chain_calls = calls_sent.1; few = few_sent }
+  sound_sent = record {
+    shape = shape_sent p e rows sound.shape;
+    grounded = grounded_sent;
+    named = named_sent;
+    block_calls = calls_sent.0;
+    chain_calls = calls_sent.1;
+    few = few_sent;
+  }
 
 module _ (p : Parts) (e : FlowEdge) (rows : TableRows) (kept : AreKept p rows) (may : MaySend p rows e) (fit : FitsEach p e) where
   abbrev before : Table
@@ -176,7 +190,8 @@ module _ (p : Parts) (e : FlowEdge) (rows : TableRows) (kept : AreKept p rows) (
   good_sent = record {
     arrivals = λ b is. ⊎_elim
         (λ (q : next (targets.Block b) ≡ before (targets.Block b)). q ∙ kept.good.arrivals b is)
-        (λ (q : IsOnePlace p.entities e.target (targets.Block b) × (next (targets.Block b) ≡ Some (with_state e.state (before (targets.Block b))))). absurd (enters_none p b e.target is q.0 may.enters))
+        (λ (q : IsOnePlace p.entities e.target (targets.Block b)
+        × (next (targets.Block b) ≡ Some (with_state e.state (before (targets.Block b))))). absurd (enters_none p b e.target is q.0 may.enters))
         (lookup_sent p e rows may.enters kept.shape (targets.Block b));
     grounded = sound_after.grounded;
     below = λ none t by pass x. ⊎_elim
@@ -190,11 +205,19 @@ module _ (p : Parts) (e : FlowEdge) (rows : TableRows) (kept : AreKept p rows) (
   }
 
   pub kept_sent : AreKept p (send_edge p e rows)
-  kept_sent = record { shape = sound_after.shape; good = good_sent; named = sound_after.named; block_calls = sound_after.block_calls; chain_calls = sound_after.chain_calls; few = sound_after.few }
+  kept_sent = record {
+    shape = sound_after.shape;
+    good = good_sent;
+    named = sound_after.named;
+    block_calls = sound_after.block_calls;
+    chain_calls = sound_after.chain_calls;
+    few = sound_after.few;
+  }
 
 -- what may be sent may be sent after another edge was
 pub may_still : (p : Parts) (d e : FlowEdge) (rows : TableRows) → MaySend p rows e → MaySend p (send_edge p d rows) e
-may_still p d e rows h = record { grounded = h.grounded; enters = h.enters; named = h.named; calls = h.calls; nearly = λ q. omega (arith, h.nearly q, absent_sent p d rows) }
+may_still p d e rows h =
+    record { grounded = h.grounded; enters = h.enters; named = h.named; calls = h.calls; nearly = λ q. omega (arith, h.nearly q, absent_sent p d rows) }
 
 -- several edges
 may_still_all : (p : Parts) (e : FlowEdge) (es : List FlowEdge) (rows : TableRows) → All (MaySend p rows) (e ∷ es) → All (MaySend p (send_edge p e rows)) es
@@ -202,12 +225,15 @@ may_still_all p e es rows h = All-weaker (MaySend p rows) (MaySend p (send_edge 
 
 pub sound_all : (p : Parts) (es : List FlowEdge) (rows : TableRows) → AreSound p rows → All (MaySend p rows) es → AreSound p (all_sent p es rows)
 sound_all p [] rows sound h = sound
-sound_all p (e ∷ es) rows sound h = sound_all p es (send_edge p e rows) (sound_sent p e rows sound (All-head (MaySend p rows) e es h)) (may_still_all p e es rows h)
+sound_all p (e ∷ es) rows sound h =
+    sound_all p es (send_edge p e rows) (sound_sent p e rows sound (All-head (MaySend p rows) e es h)) (may_still_all p e es rows h)
 
-pub kept_all : (p : Parts) (es : List FlowEdge) (rows : TableRows) → AreKept p rows → All (MaySend p rows) es → All (FitsEach p) es → AreKept p (all_sent p es rows)
+pub kept_all : (p : Parts) (es : List FlowEdge) (rows : TableRows) → AreKept p rows → All (MaySend p rows) es → All (FitsEach p) es
+    → AreKept p (all_sent p es rows)
 kept_all p [] rows kept h fit = kept
 kept_all p (e ∷ es) rows kept h fit =
-    kept_all p es (send_edge p e rows) (kept_sent p e rows kept (All-head (MaySend p rows) e es h) (All-head (FitsEach p) e es fit)) (may_still_all p e es rows h) (All-tail (FitsEach p) e es fit)
+    kept_all p es (send_edge p e rows) (kept_sent p e rows kept (All-head (MaySend p rows) e es h) (All-head (FitsEach p) e es fit))
+    (may_still_all p e es rows h) (All-tail (FitsEach p) e es fit)
 
 -- WHAT KINDS GIVE
 
@@ -222,7 +248,8 @@ chain_kind : (kind : Kind) → serves_as Chain kind ≡ true → is_chain kind �
 chain_kind kinds.Chain h = refl
 chain_kind kind h = absurd (false≢true h)
 
-chain_at : (es : List Entity) (e : ℕ) (o : Option Entity) → slice_get es e ≡ o → IsSomeAnd (option_map (λ (entity : Entity). entity.kind) o) (λ kind. IsTrue (serves_as Chain kind)) → chain_place es e < chains_in es
+chain_at : (es : List Entity) (e : ℕ) (o : Option Entity) → slice_get es e ≡ o
+    → IsSomeAnd (option_map (λ (entity : Entity). entity.kind) o) (λ kind. IsTrue (serves_as Chain kind)) → chain_place es e < chains_in es
 chain_at es e None is h = absurd h
 chain_at es e (Some x) is h =
     let same : get_or es e x ≡ x = get_or_from_slice_get es e x x is in
@@ -234,11 +261,16 @@ chain_before es e h = chain_at es e (slice_get es e) refl h
 
 pub leads_well : (p : Parts) → IsWell p → LeadsWell p
 leads_well p well = record {
-  ways = λ b block is. All-append (λ (way : Way). may_enter (block_at p.blocks (leads_to b way)) ≡ true) (map (λ (exit : Exit). exit.way) (exits block)) (option_to_list (other_way block))
+  ways = λ b block is. All-append (λ (way : Way). may_enter (block_at p.blocks (leads_to b way)) ≡ true)
+      (map (λ (exit : Exit). exit.way) (exits block)) (option_to_list (other_way block))
       (All-map (λ (way : Way). may_enter (block_at p.blocks (leads_to b way)) ≡ true) (λ (exit : Exit). exit.way) (exits block)
-      (All-weaker (λ (exit : Exit). MayBeEntered p (leads_to b exit.way)) (λ (exit : Exit). may_enter (block_at p.blocks (leads_to b exit.way)) ≡ true) (λ exit h. entered (block_at p.blocks (leads_to b exit.way)) h) (exits block) (block_holds p well b block is).exits))
-      (All-weaker (λ (way : Way). MayBeEntered p (leads_to b way)) (λ (way : Way). may_enter (block_at p.blocks (leads_to b way)) ≡ true) (λ way h. entered (block_at p.blocks (leads_to b way)) h) (option_to_list (other_way block)) (block_holds p well b block is).others);
-  links = λ b l is. chain_before p.entities l.chain (All-head (IsEntity p.entities) (needs Chain l.chain) (filter_map entity_of (values (blocks.Link l))) (block_holds p well b (blocks.Link l) is).entities);
+      (All-weaker (λ (exit : Exit). MayBeEntered p (leads_to b exit.way))
+      (λ (exit : Exit). may_enter (block_at p.blocks (leads_to b exit.way)) ≡ true)
+      (λ exit h. entered (block_at p.blocks (leads_to b exit.way)) h) (exits block) (block_holds p well b block is).exits))
+      (All-weaker (λ (way : Way). MayBeEntered p (leads_to b way)) (λ (way : Way). may_enter (block_at p.blocks (leads_to b way)) ≡ true)
+      (λ way h. entered (block_at p.blocks (leads_to b way)) h) (option_to_list (other_way block)) (block_holds p well b block is).others);
+  links = λ b l is. chain_before p.entities l.chain
+      (All-head (IsEntity p.entities) (needs Chain l.chain) (filter_map entity_of (values (blocks.Link l))) (block_holds p well b (blocks.Link l) is).entities);
 }
 
 -- WHAT A BLOCK SENDS
@@ -260,7 +292,8 @@ if_nearly p rows (Some row) h = λ e. omega (arith, h e)
 all_absent : (p : Parts) (rows : TableRows) → HasShape p rows → absent rows ≤ length p.blocks + chains_in p.entities
 all_absent p rows s = omega (arith, absent_length rows.blocks, absent_length rows.chains, s.blocks, s.chains)
 
-edges_may : (p : Parts) (b : ℕ) (block : Block) (row : Row) (rows : TableRows) → IsWell p → AreSound p rows → block_at p.blocks b ≡ Some block → as_table p rows (targets.Block b) ≡ Some row → All (MaySend p rows) (edges p (as_table p rows) b block row)
+edges_may : (p : Parts) (b : ℕ) (block : Block) (row : Row) (rows : TableRows) → IsWell p → AreSound p rows → block_at p.blocks b
+    ≡ Some block → as_table p rows (targets.Block b) ≡ Some row → All (MaySend p rows) (edges p (as_table p rows) b block row)
 edges_may p b block row rows well sound is has =
     let table = as_table p rows in
     let holds = block_holds p well b block is in
@@ -268,11 +301,15 @@ edges_may p b block row rows well sound is has =
     let named : IsNamed p.entities row = subst (λ r. IfSome r (IsNamed p.entities)) has (sound.named (targets.Block b)) in
     let grounded : IsGrounded p row = subst (λ r. IfSome r (IsGrounded p)) has (sound.grounded (targets.Block b)) in
     let leads = sound_edges p (leads_well p well) table b block row is grounded sound.grounded in
-    let names = at_edges (IsNamed p.entities) table b block row named (named_after p.entities b block row holds.entities named) (named_alone p.entities (after b block row)) (λ e. sound.named (targets.Chain e)) in
+    let names = at_edges (IsNamed p.entities) table b block row named (named_after p.entities b block row holds.entities named)
+    (named_alone p.entities (after b block row)) (λ e. sound.named (targets.Chain e)) in
     let own_calls : NamesCalls p.blocks row = subst (λ r. IfSome r (NamesCalls p.blocks)) has (calls_at p rows sound (targets.Block b)) in
     let then_calls = calls_after p.blocks b block row is own_calls in
     let calls = at_edges (NamesCalls p.blocks) table b block row own_calls then_calls then_calls (λ e. calls_at p rows sound (targets.Chain e)) in
-    let nearly = at_edges (HasNearlyFew p rows) table b block row (few_nearly p rows row row few (λ e. omega arith)) (few_nearly p rows row (after b block row) few (more_after b block row holds.constants)) (nearly_alone p rows (after b block row) (all_absent p rows sound.shape)) (λ e. if_nearly p rows (table (targets.Chain e)) (sound.few (targets.Chain e))) in
+    let nearly = at_edges (HasNearlyFew p rows) table b block row (few_nearly p rows row row few (λ e. omega arith))
+    (few_nearly p rows row (after b block row) few (more_after b block row holds.constants))
+    (nearly_alone p rows (after b block row) (all_absent p rows sound.shape))
+    (λ e. if_nearly p rows (table (targets.Chain e)) (sound.few (targets.Chain e))) in
     λ k d within. record {
       grounded = (leads k d within).0;
       enters = (leads k d within).1;
@@ -281,24 +318,30 @@ edges_may p b block row rows well sound is has =
       nearly = nearly k d within;
     }
 
-edges_fit : (p : Parts) (b : ℕ) (block : Block) (row : Row) (rows : TableRows) → AreKept p rows → block_at p.blocks b ≡ Some block → as_table p rows (targets.Block b) ≡ Some row → All (FitsEach p) (edges p (as_table p rows) b block row)
-edges_fit p b block row rows kept is has = λ k d within none t by pass. (row_passes p (as_table p rows) t kept.good none by pass b block row is has).1 k d within
+edges_fit : (p : Parts) (b : ℕ) (block : Block) (row : Row) (rows : TableRows) → AreKept p rows → block_at p.blocks b ≡ Some block
+    → as_table p rows (targets.Block b) ≡ Some row → All (FitsEach p) (edges p (as_table p rows) b block row)
+edges_fit p b block row rows kept is has =
+    λ k d within none t by pass. (row_passes p (as_table p rows) t kept.good none by pass b block row is has).1 k d within
 
-sends_may_in : (p : Parts) (b : ℕ) (block : Option Block) (row : Option Row) (rows : TableRows) → IsWell p → AreSound p rows → block_at p.blocks b ≡ block → as_table p rows (targets.Block b) ≡ row → All (MaySend p rows) (sends_in p (as_table p rows) b block row)
+sends_may_in : (p : Parts) (b : ℕ) (block : Option Block) (row : Option Row) (rows : TableRows) → IsWell p → AreSound p rows
+    → block_at p.blocks b ≡ block → as_table p rows (targets.Block b) ≡ row → All (MaySend p rows) (sends_in p (as_table p rows) b block row)
 sends_may_in p b None row rows well sound is has = All-nil (MaySend p rows)
 sends_may_in p b (Some block) None rows well sound is has = All-nil (MaySend p rows)
 sends_may_in p b (Some block) (Some row) rows well sound is has =
-    all_if (MaySend p rows) (list_all (λ (rule : Rule). rule.holds) (rules p block row)) (edges p (as_table p rows) b block row) (edges_may p b block row rows well sound is has)
+    all_if (MaySend p rows) (list_all (λ (rule : Rule). rule.holds) (rules p block row)) (edges p (as_table p rows) b block row)
+    (edges_may p b block row rows well sound is has)
 
 -- what a block sends may be sent
 pub sends_may : (p : Parts) (b : ℕ) (rows : TableRows) → IsWell p → AreSound p rows → All (MaySend p rows) (sends p (as_table p rows) b)
 sends_may p b rows well sound = sends_may_in p b (block_at p.blocks b) (as_table p rows (targets.Block b)) rows well sound refl refl
 
-sends_fit_in : (p : Parts) (b : ℕ) (block : Option Block) (row : Option Row) (rows : TableRows) → AreKept p rows → block_at p.blocks b ≡ block → as_table p rows (targets.Block b) ≡ row → All (FitsEach p) (sends_in p (as_table p rows) b block row)
+sends_fit_in : (p : Parts) (b : ℕ) (block : Option Block) (row : Option Row) (rows : TableRows) → AreKept p rows → block_at p.blocks b
+    ≡ block → as_table p rows (targets.Block b) ≡ row → All (FitsEach p) (sends_in p (as_table p rows) b block row)
 sends_fit_in p b None row rows kept is has = All-nil (FitsEach p)
 sends_fit_in p b (Some block) None rows kept is has = All-nil (FitsEach p)
 sends_fit_in p b (Some block) (Some row) rows kept is has =
-    all_if (FitsEach p) (list_all (λ (rule : Rule). rule.holds) (rules p block row)) (edges p (as_table p rows) b block row) (edges_fit p b block row rows kept is has)
+    all_if (FitsEach p) (list_all (λ (rule : Rule). rule.holds) (rules p block row)) (edges p (as_table p rows) b block row)
+    (edges_fit p b block row rows kept is has)
 
 -- what a block sends fits where it comes
 sends_fit : (p : Parts) (b : ℕ) (rows : TableRows) → AreKept p rows → All (FitsEach p) (sends p (as_table p rows) b)
@@ -307,7 +350,8 @@ sends_fit p b rows kept = sends_fit_in p b (block_at p.blocks b) (as_table p row
 -- ROUNDS
 
 pub visits_keep : (p : Parts) (b : ℕ) (rows : TableRows) → IsWell p → AreKept p rows → AreKept p (visit_block p b rows)
-visits_keep p b rows well kept = kept_all p (sends p (as_table p rows) b) rows kept (sends_may p b rows well (sound_if_kept p rows kept)) (sends_fit p b rows kept)
+visits_keep p b rows well kept =
+    kept_all p (sends p (as_table p rows) b) rows kept (sends_may p b rows well (sound_if_kept p rows kept)) (sends_fit p b rows kept)
 
 visit_sound : (p : Parts) (b : ℕ) (rows : TableRows) → IsWell p → AreSound p rows → AreSound p (visit_block p b rows)
 visit_sound p b rows well sound = sound_all p (sends p (as_table p rows) b) rows sound (sends_may p b rows well sound)
@@ -335,7 +379,8 @@ no_chain zero k = refl
 no_chain (suc n) zero = refl
 no_chain (suc n) (suc k) = no_chain n k
 
-start_block : (p : Parts) (b : ℕ) (row : Option Row) → ((o : Option Block) → o ≡ block_at p.blocks b → option_flatten (option_map start_row o) ≡ row) → as_table p (start p) (targets.Block b) ≡ row
+start_block : (p : Parts) (b : ℕ) (row : Option Row)
+    → ((o : Option Block) → o ≡ block_at p.blocks b → option_flatten (option_map start_row o) ≡ row) → as_table p (start p) (targets.Block b) ≡ row
 start_block p zero row h = h None refl
 start_block p (suc i) row h = ap option_flatten (slice_get-map start_row p.blocks i) ∙ h (slice_get p.blocks i) refl
 
@@ -366,13 +411,18 @@ start_kept p = record {
 
     start_calls : (bs : List Block) → All (λ row. IfSome row (NamesCalls p.blocks)) (map start_row bs)
     start_calls [] = All-nil (λ row. IfSome row (NamesCalls p.blocks))
-    start_calls (b ∷ bs) = All-cons (λ row. IfSome row (NamesCalls p.blocks)) (start_row b) (map start_row bs) (start_calls_if (is_generate (Some b))) (start_calls bs)
+    start_calls (b ∷ bs) = All-cons (λ row. IfSome row (NamesCalls p.blocks)) (start_row b) (map start_row bs)
+        (start_calls_if (is_generate (Some b))) (start_calls bs)
 
     shape : HasShape p (start p)
     shape = record { blocks = length_start p.blocks; chains = length-replicate (chains_in p.entities) None }
 
     nothing_named : IsNamed p.entities nothing_known
-    nothing_named = record { facilities = All-nil (λ f. IsEntity p.entities (needs Facility f)); units = All-nil (λ (e : ℕ × ℕ). IsEntity p.entities (needs StorageOrQueue e.0)) }
+    nothing_named = record {
+      facilities = All-nil (λ f. IsEntity p.entities (needs Facility f));
+      units =
+          All-nil (λ (e : ℕ × ℕ). IsEntity p.entities (needs StorageOrQueue e.0));
+    }
 
     nothing_few : HasFew p (start p) nothing_known
     nothing_few = λ e. omega (arith, all_absent p (start p) shape)
@@ -382,7 +432,10 @@ start_kept p = record {
     of_row P row h (inr q) = subst (λ r. IfSome r P) (sym q) h
 
     from_start : (P : Row → Type 0) → P nothing_known → (x : Target) → IfSome (as_table p (start p) x) P
-    from_start P h x = of_row P (as_table p (start p) x) h (⊎_elim (λ (q : as_table p (start p) x ≡ None). inl q) (λ (q : (as_table p (start p) x ≡ Some nothing_known) × ((b : ℕ) × (x ≡ targets.Block b) × (is_generate (block_at p.blocks b) ≡ true))). inr q.0) (start_at p (as_table p (start p)) x (is_start p)))
+    from_start P h x = of_row P (as_table p (start p) x) h
+        (⊎_elim (λ (q : as_table p (start p) x ≡ None). inl q)
+        (λ (q : (as_table p (start p) x ≡ Some nothing_known) × ((b : ℕ) × (x ≡ targets.Block b)
+        × (is_generate (block_at p.blocks b) ≡ true))). inr q.0) (start_at p (as_table p (start p)) x (is_start p)))
 
 -- ROOM
 
@@ -410,5 +463,7 @@ row_room p b row rows well sound has =
     }
 
 -- each edge that a block sends leads to a place
-pub sends_enter : (p : Parts) (b : ℕ) (rows : TableRows) → IsWell p → AreSound p rows → All (λ (e : FlowEdge). MayEnter p e.target) (sends p (as_table p rows) b)
-sends_enter p b rows well sound = All-weaker (MaySend p rows) (λ (e : FlowEdge). MayEnter p e.target) (λ e h. h.enters) (sends p (as_table p rows) b) (sends_may p b rows well sound)
+pub sends_enter : (p : Parts) (b : ℕ) (rows : TableRows) → IsWell p → AreSound p rows
+    → All (λ (e : FlowEdge). MayEnter p e.target) (sends p (as_table p rows) b)
+sends_enter p b rows well sound =
+    All-weaker (MaySend p rows) (λ (e : FlowEdge). MayEnter p e.target) (λ e h. h.enters) (sends p (as_table p rows) b) (sends_may p b rows well sound)

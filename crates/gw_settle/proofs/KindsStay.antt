@@ -21,7 +21,9 @@ use Rattle.gw_rules.specs.declared.entities.Named.{Named}
 use Rattle.gw_rules.specs.declared.entities.EntityKind.TheVariants.{Facility, StorageOrQueue}
 use Rattle.gw_rules.specs.Checks.{Check, first_broken, checks_by_number}
 use Rattle.gw_operands.specs.Sources.{kind_at}
-use Rattle.gw_rules.specs.Kinds.{needs, serves_as, is_there, is_no_other_kind, names_no_other_kind, are_there, entities_of_row, return_row_of, has_return_rows, is_call_at, names_calls, chain_row, return_checks, row_checks, chain_checks, entity_checks, block_checks}
+use Rattle.gw_rules.specs.Kinds.{needs, serves_as, is_there, is_no_other_kind, names_no_other_kind, are_there, entities_of_row, return_row_of}
+use Rattle.gw_rules.specs.Kinds.{has_return_rows, is_call_at, names_calls, chain_row, return_checks, row_checks, chain_checks, entity_checks}
+use Rattle.gw_rules.specs.Kinds.{block_checks}
 use Rattle.gw_rules.specs.KindsLaws.{IsEntity}
 use Rattle.gw_rules.specs.Procedures.{procedure_checks}
 use Rattle.gw_rules.specs.Pass.{kinds_checks, KindsPass}
@@ -45,9 +47,11 @@ hold_parts cs ds h = both_none (first_broken cs) (first_broken ds) (sym (first_b
 hold_both : (cs ds : List Check) → Hold cs → Hold ds → Hold (cs ++ ds)
 hold_both cs ds h g = first_broken-append cs ds ∙ rw (h, g) refl
 
-hold_each : {A : Type 0} (f : ℕ → A → List Check) (P : A → Type 0) → ((n : ℕ) (x : A) → P x → Hold (f n x)) → (n : ℕ) (xs : List A) → All P xs → Hold (checks_by_number f n xs)
+hold_each : {A : Type 0} (f : ℕ → A → List Check) (P : A → Type 0) → ((n : ℕ) (x : A) → P x → Hold (f n x)) → (n : ℕ) (xs : List A)
+    → All P xs → Hold (checks_by_number f n xs)
 hold_each f P h n [] each = refl
-hold_each f P h n (x ∷ xs) each = hold_both (f n x) (checks_by_number f (n + 1) xs) (h n x (All-head P x xs each)) (hold_each f P h (n + 1) xs (All-tail P x xs each))
+hold_each f P h n (x ∷ xs) each =
+    hold_both (f n x) (checks_by_number f (n + 1) xs) (h n x (All-head P x xs each)) (hold_each f P h (n + 1) xs (All-tail P x xs each))
 
 all_true : {A : Type 0} (f : A → Bool) (xs : List A) → All (λ x. f x ≡ true) xs → list_all f xs ≡ true
 all_true f [] h = refl
@@ -60,7 +64,8 @@ pub record IsRowWell (es : List Entity) (n : ℕ) (state : TableState) : Type 0 
   pub entities : All (IsEntity es) (entities_of_row state)
   pub numbers : NamesRows n state
 
-no_other : (named : Named) (o : Option Kind) → IsSomeAnd o (λ kind. IsTrue (serves_as named.needed kind)) → (kind : Kind) × (o ≡ Some kind) × (serves_as named.needed kind ≡ true)
+no_other : (named : Named) (o : Option Kind) → IsSomeAnd o (λ kind. IsTrue (serves_as named.needed kind)) → (kind : Kind) × (o ≡ Some kind)
+    × (serves_as named.needed kind ≡ true)
 no_other named None h = absurd h
 no_other named (Some kind) h = (kind, refl, h)
 
@@ -77,11 +82,13 @@ is_here es named h =
     let entity = there_at (slice_get es named.entity) it.0 it.1 in
     lt-ltb named.entity (length es) (slice_get_within es named.entity entity.0 entity.1)
 
-one_there : (n : ℕ) (o : Option ℕ) (rest : List ℕ) → IfSome o (λ r. r < n) → list_all (λ r. nat_lt r n) rest ≡ true → list_all (λ r. nat_lt r n) (cons_option o rest) ≡ true
+one_there : (n : ℕ) (o : Option ℕ) (rest : List ℕ) → IfSome o (λ r. r < n) → list_all (λ r. nat_lt r n) rest ≡ true
+    → list_all (λ r. nat_lt r n) (cons_option o rest) ≡ true
 one_there n None rest h g = g
 one_there n (Some r) rest h g = and_from (nat_lt r n) (list_all (λ r. nat_lt r n) rest) (lt-ltb r n h) g
 
-rows_there : (n : ℕ) (ps : List TableParameter) → All (λ (p : TableParameter). IfSome (return_row_of p.kind) (λ r. r < n)) ps → list_all (λ r. nat_lt r n) (filter_map (λ (p : TableParameter). return_row_of p.kind) ps) ≡ true
+rows_there : (n : ℕ) (ps : List TableParameter) → All (λ (p : TableParameter). IfSome (return_row_of p.kind) (λ r. r < n)) ps
+    → list_all (λ r. nat_lt r n) (filter_map (λ (p : TableParameter). return_row_of p.kind) ps) ≡ true
 rows_there n [] h = refl
 rows_there n (p ∷ ps) h =
     one_there n (return_row_of p.kind) (filter_map (λ (q : TableParameter). return_row_of q.kind) ps)
@@ -91,8 +98,10 @@ rows_there n (p ∷ ps) h =
 row_holds : (p : Parts) (place : Place) (state : Option TableState) → IfSome state (IsRowWell p.entities (length p.returns)) → Hold (row_checks p place state)
 row_holds p place None h = refl
 row_holds p place (Some state) h =
-    let kinds : names_no_other_kind p.entities (entities_of_row state) ≡ true = all_true (is_no_other_kind p.entities) (entities_of_row state) (λ k d within. is_other p.entities _ (h.entities k d within)) in
-    let there : are_there p.entities (entities_of_row state) ≡ true = all_true (is_there p.entities) (entities_of_row state) (λ k d within. is_here p.entities _ (h.entities k d within)) in
+    let kinds : names_no_other_kind p.entities (entities_of_row state) ≡ true =
+    all_true (is_no_other_kind p.entities) (entities_of_row state) (λ k d within. is_other p.entities _ (h.entities k d within)) in
+    let there : are_there p.entities (entities_of_row state) ≡ true =
+    all_true (is_there p.entities) (entities_of_row state) (λ k d within. is_here p.entities _ (h.entities k d within)) in
     let numbers : has_return_rows p.returns state ≡ true = rows_there (length p.returns) state.parameters h.numbers in
     rw (kinds, there, numbers) refl
 
@@ -105,9 +114,13 @@ chain_if : (c : Bool) (cs : List Check) → Hold cs → Hold (if c then cs else 
 chain_if true cs h = h
 chain_if false cs h = refl
 
-chains_hold : (p : Parts) → ((e : ℕ) → IfSome (chain_row p e) (IsRowWell p.entities (length p.returns))) → (n : ℕ) (es : List Entity) → Hold (checks_by_number (chain_checks p) n es)
+chains_hold : (p : Parts) → ((e : ℕ) → IfSome (chain_row p e) (IsRowWell p.entities (length p.returns))) → (n : ℕ) (es : List Entity)
+    → Hold (checks_by_number (chain_checks p) n es)
 chains_hold p h n [] = refl
-chains_hold p h n (e ∷ es) = hold_both (chain_checks p n e) (checks_by_number (chain_checks p) (n + 1) es) (chain_if (is_chain e.kind) (row_checks p (places.Chain n) (chain_row p n)) (row_holds p (places.Chain n) (chain_row p n) (h n))) (chains_hold p h (n + 1) es)
+chains_hold p h n (e ∷ es) =
+    hold_both (chain_checks p n e) (checks_by_number (chain_checks p) (n + 1) es)
+    (chain_if (is_chain e.kind) (row_checks p (places.Chain n) (chain_row p n)) (row_holds p (places.Chain n) (chain_row p n) (h n)))
+    (chains_hold p h (n + 1) es)
 
 -- kinds pass with a table whose rows are well
 pub kinds_with : (p : Parts) (returns : List ReturnRow) (states chain_states : List (Option TableState)) → KindsPass p →
@@ -134,15 +147,20 @@ kinds_with p returns states chain_states passes calls rows chains =
     let new_chains = checks_by_number (chain_checks q) 0 p.entities in
     hold_both entities (procedures ++ (new_returns ++ (new_states ++ (new_chains ++ bs)))) one.0
     (hold_both procedures (new_returns ++ (new_states ++ (new_chains ++ bs))) two.0
-    (hold_both new_returns (new_states ++ (new_chains ++ bs)) (hold_each (return_checks q) (λ (row : ReturnRow). All (λ b. is_call_at p.blocks b ≡ true) row.blocks) (return_holds q) 0 returns calls)
-    (hold_both new_states (new_chains ++ bs) (hold_each (λ b. row_checks q (places.Block b)) (λ state. IfSome state (IsRowWell p.entities (length returns))) (λ n state h. row_holds q (places.Block n) state h) 1 states rows)
+    (hold_both new_returns (new_states ++ (new_chains ++ bs))
+    (hold_each (return_checks q) (λ (row : ReturnRow). All (λ b. is_call_at p.blocks b ≡ true) row.blocks) (return_holds q) 0 returns calls)
+    (hold_both new_states (new_chains ++ bs)
+    (hold_each (λ b. row_checks q (places.Block b)) (λ state. IfSome state (IsRowWell p.entities (length returns)))
+    (λ n state h. row_holds q (places.Block n) state h) 1 states rows)
     (hold_both new_chains bs (chains_hold q chains 0 p.entities) five.1))))
 
 -- a row that was written of one whose entities are of the right kinds is well
-pub written_well : (es : List Entity) (returns : List ReturnRow) (n : ℕ) (state : TableState) → IsNamed es (row_meaning returns state) → NamesRows n state → IsRowWell es n state
+pub written_well : (es : List Entity) (returns : List ReturnRow) (n : ℕ) (state : TableState) → IsNamed es (row_meaning returns state)
+    → NamesRows n state → IsRowWell es n state
 written_well es returns n state h numbers = record {
   entities = All-append (IsEntity es) (map (needs Facility) state.facilities) (map (λ (u : Units). needs StorageOrQueue u.entity) state.units)
       (All-map (IsEntity es) (needs Facility) state.facilities h.facilities)
-      (All-map (IsEntity es) (λ (u : Units). needs StorageOrQueue u.entity) state.units (All-from_map (λ (e : ℕ × ℕ). IsEntity es (needs StorageOrQueue e.0)) (λ (u : Units). (u.entity, u.number)) state.units h.units));
+      (All-map (IsEntity es) (λ (u : Units). needs StorageOrQueue u.entity) state.units
+      (All-from_map (λ (e : ℕ × ℕ). IsEntity es (needs StorageOrQueue e.0)) (λ (u : Units). (u.entity, u.number)) state.units h.units));
   numbers = numbers;
 }

@@ -56,8 +56,10 @@ later_smaller n s t (inr h) same = h.1
 
 -- ONE ROUND
 
-fell_by : (p : Parts) (rows : TableRows) (change : Change) → IsWell p → AreReached p rows → change_in p rows ≡ change → Falls (length p.blocks + 1) change rows (round p rows)
-fell_by p rows change well reached is = subst (λ d. Falls (length p.blocks + 1) d rows (round p rows)) is (falls_to p (length p.blocks) rows well (reached_sound p rows well reached))
+fell_by : (p : Parts) (rows : TableRows) (change : Change) → IsWell p → AreReached p rows → change_in p rows ≡ change
+    → Falls (length p.blocks + 1) change rows (round p rows)
+fell_by p rows change well reached is =
+    subst (λ d. Falls (length p.blocks + 1) d rows (round p rows)) is (falls_to p (length p.blocks) rows well (reached_sound p rows well reached))
 
 one_round : (p : Parts) (rows : TableRows) (change : Change) → IsWell p → AreReached p rows → change_in p rows ≡ change → Advances p change rows (round p rows)
 one_round p rows Same well reached is = (is, refl)
@@ -65,17 +67,20 @@ one_round p rows Less well reached is = (is, record { later = (0, refl); absent 
 one_round p rows More well reached is = ((1, refl), fell_by p rows More well reached is)
 
 -- a round advances
-pub advances_once : (p : Parts) (rows new : TableRows) (change : Change) → IsWell p → AreReached p rows → new ≡ round p rows → change ≡ change_in p rows → Advances p change rows new
+pub advances_once : (p : Parts) (rows new : TableRows) (change : Change) → IsWell p → AreReached p rows → new ≡ round p rows → change
+    ≡ change_in p rows → Advances p change rows new
 advances_once p rows new change well reached is changes = subst (Advances p change rows) (sym is) (one_round p rows change well reached (sym changes))
 
-absent_by : (p : Parts) (rows : TableRows) (change : Change) → IsWell p → AreReached p rows → change_in p rows ≡ change → change ≢ More → absent (round p rows) ≡ absent rows
+absent_by : (p : Parts) (rows : TableRows) (change : Change) → IsWell p → AreReached p rows → change_in p rows ≡ change → change ≢ More
+    → absent (round p rows) ≡ absent rows
 absent_by p rows Same well reached is ne = ap absent (fell_by p rows Same well reached is)
 absent_by p rows Less well reached is ne = (fell_by p rows Less well reached is).0
 absent_by p rows More well reached is ne = absurd (ne refl)
 
 -- TWO ROUNDS
 
-module _ (p : Parts) (rows next second : TableRows) (well : IsWell p) (reached : AreReached p rows) (is_next : next ≡ round p rows) (less : change_in p rows ≡ Less) (is_second : second ≡ round p next) where
+module _ (p : Parts) (rows next second : TableRows) (well : IsWell p) (reached : AreReached p rows) (is_next : next ≡ round p rows)
+    (less : change_in p rows ≡ Less) (is_second : second ≡ round p next) where
   next_reached : AreReached p next
   next_reached = reached_next p rows next reached is_next
 
@@ -108,12 +113,14 @@ jumps_none p next second is = record { later = (1, is); absent = refl }
 pub advance_reached : (p : Parts) (rows new : TableRows) → AreReached p rows → Advances p Less rows new → AreReached p new
 advance_reached p rows new reached h = reached_later p (round p rows) new (reached_next p rows (round p rows) reached refl) h.1.later
 
-pub advance_smaller : (p : Parts) (rows new : TableRows) → IsWell p → AreReached p rows → Advances p Less rows new → size (length p.blocks + 1) new < size (length p.blocks + 1) rows
+pub advance_smaller : (p : Parts) (rows new : TableRows) → IsWell p → AreReached p rows → Advances p Less rows new
+    → size (length p.blocks + 1) new < size (length p.blocks + 1) rows
 advance_smaller p rows new well reached h =
     let fell = fell_by p rows Less well reached h.0 in
     let later = h.1.later in
     let next_reached = reached_next p rows (round p rows) reached refl in
-    let sinks = subst (Sinks (length p.blocks + 1) (round p rows)) (sym later.1) (sinks_further p later.0 (round p rows) well (reached_sound p (round p rows) well next_reached)) in
+    let sinks = subst (Sinks (length p.blocks + 1) (round p rows)) (sym later.1)
+    (sinks_further p later.0 (round p rows) well (reached_sound p (round p rows) well next_reached)) in
     omega (arith, fell.1, later_smaller (length p.blocks + 1) (round p rows) new sinks (h.1.absent ∙ sym fell.0))
 
 -- SHAPES
@@ -131,5 +138,7 @@ pub far_sound : (p : Parts) (n : ℕ) (rows next far : TableRows) → IsWell p �
 far_sound p n rows next far well reached is = subst (AreSound p) (sym is) (after_sound p n rows next (reached_sound p rows well reached))
 
 -- the round after a jump
-pub last_shape : (p : Parts) (n : ℕ) (rows next far last : TableRows) → IsWell p → AreReached p rows → far ≡ rows_after n rows next → last ≡ round p far → HasShape p last
-last_shape p n rows next far last well reached is after = subst (HasShape p) (sym after) (visited_sound p (length p.blocks) far well (far_sound p n rows next far well reached is)).shape
+pub last_shape : (p : Parts) (n : ℕ) (rows next far last : TableRows) → IsWell p → AreReached p rows → far ≡ rows_after n rows next → last
+    ≡ round p far → HasShape p last
+last_shape p n rows next far last well reached is after =
+    subst (HasShape p) (sym after) (visited_sound p (length p.blocks) far well (far_sound p n rows next far well reached is)).shape

@@ -64,7 +64,8 @@ lower_to es state (targets.Chain e) rows = record { blocks = λ i. lower_itself 
 
 lower_all : (p : Parts) (es : List FlowEdge) (rows : TableRows) → AreLower (all_sent p es rows) rows
 lower_all p [] rows = all_itself rows
-lower_all p (e ∷ es) rows = all_on (all_sent p es (send_edge p e rows)) (send_edge p e rows) rows (lower_all p es (send_edge p e rows)) (lower_to p.entities e.state e.target rows)
+lower_all p (e ∷ es) rows =
+    all_on (all_sent p es (send_edge p e rows)) (send_edge p e rows) rows (lower_all p es (send_edge p e rows)) (lower_to p.entities e.state e.target rows)
 
 -- visits lower a table's rows
 pub lower_visited : (p : Parts) (k : ℕ) (rows : TableRows) → AreLower (visited_to p k rows) rows
@@ -74,11 +75,13 @@ lower_visited p (suc k) rows =
     all_on (visit_block p (suc k) before) before rows (lower_all p (sends p (as_table p before) (suc k)) before) (lower_visited p k rows)
 
 lower_past : (p : Parts) (d k : ℕ) (rows : TableRows) (m : ℕ) → d + k ≡ m → AreLower (visited_to p m rows) (visited_to p k rows)
-lower_past p zero k rows m is = let same : k ≡ m = omega (arith, is) in subst (λ n. AreLower (visited_to p n rows) (visited_to p k rows)) same (all_itself (visited_to p k rows))
+lower_past p zero k rows m is = let same : k ≡ m = omega (arith, is) in
+    subst (λ n. AreLower (visited_to p n rows) (visited_to p k rows)) same (all_itself (visited_to p k rows))
 lower_past p (suc d) k rows zero is = absurd (omega (arith, is))
 lower_past p (suc d) k rows (suc m) is =
     let before = visited_to p m rows in
-    all_on (visit_block p (suc m) before) before (visited_to p k rows) (lower_all p (sends p (as_table p before) (suc m)) before) (lower_past p d k rows m (omega (arith, is)))
+    all_on (visit_block p (suc m) before) before (visited_to p k rows) (lower_all p (sends p (as_table p before) (suc m)) before)
+    (lower_past p d k rows m (omega (arith, is)))
 
 -- also those that come later
 pub lower_later : (p : Parts) (k m : ℕ) (rows : TableRows) → k ≤ m → AreLower (visited_to p m rows) (visited_to p k rows)

@@ -1,5 +1,6 @@
 -- What falls where states are sent, what a block sends while its row stays, and marks of the blocks whose rows changed.
-use Rattle.std.proofs.Common.{◌≡◌, ◌≢◌, ◌⊎◌, inl, inr, ⊎_elim, ℕ, zero, suc, ◌+◌, ◌-◌, ◌<◌, ◌≤◌, List, [], ◌∷◌, ◌++◌, length, get_or, set, replicate, Option, Some, None, Bool, true, false, if◌then◌else◌, refl, sym, ap, subst, ◌∙◌, arith}
+use Rattle.std.proofs.Common.{◌≡◌, ◌≢◌, ◌⊎◌, inl, inr, ⊎_elim, ℕ, zero, suc, ◌+◌, ◌-◌, ◌<◌, ◌≤◌, List, [], ◌∷◌, ◌++◌, length, get_or, set, replicate}
+use Rattle.std.proofs.Common.{Option, Some, None, Bool, true, false, if◌then◌else◌, refl, sym, ap, subst, ◌∙◌, arith}
 use Rattle.std.specs.Prelude.{All, IfSome, IsSomeAnd, slice_get}
 use Rattle.std.specs.Option.{option_flatten}
 use Rattle.std.specs.List.{list_all}
@@ -54,7 +55,8 @@ row_itself : (o : Option Row) → IfSome o (λ row. IsSomeAnd o (Within row))
 row_itself None = tt
 row_itself (Some row) = within_itself row
 
-row_on : (a b c : Option Row) → IfSome a (λ row. IsSomeAnd b (Within row)) → IfSome b (λ row. IsSomeAnd c (Within row)) → IfSome a (λ row. IsSomeAnd c (Within row))
+row_on : (a b c : Option Row) → IfSome a (λ row. IsSomeAnd b (Within row)) → IfSome b (λ row. IsSomeAnd c (Within row))
+    → IfSome a (λ row. IsSomeAnd c (Within row))
 row_on None b c h g = tt
 row_on (Some x) None c h g = absurd h
 row_on (Some x) (Some y) None h g = absurd g
@@ -78,7 +80,8 @@ row_idle : (state : Row) (o : Option Row) → Within state (with_state state o)
 row_idle state None = within_itself state
 row_idle state (Some row) = idle_if_kept (is_within state row) state row refl
 
-pub fallen_sent : (p : Parts) (e : FlowEdge) (rows : TableRows) → MayEnter p e.target → HasShape p rows → IsFallen (as_table p rows) (as_table p (send_edge p e rows))
+pub fallen_sent : (p : Parts) (e : FlowEdge) (rows : TableRows) → MayEnter p e.target → HasShape p rows
+    → IsFallen (as_table p rows) (as_table p (send_edge p e rows))
 fallen_sent p e rows m s x =
     let before = as_table p rows x in
     ⊎_elim
@@ -86,7 +89,8 @@ fallen_sent p e rows m s x =
     (λ q. subst (λ o. IfSome before (λ row. IsSomeAnd o (Within row))) (sym q.1) (row_below e.state before))
     (lookup_sent p e rows m s x)
 
-here_to : (p : Parts) (state : Row) (to : Target) (rows : TableRows) → MayEnter p to → HasShape p rows → as_table p (sent_to p.entities state to rows) to ≡ Some (with_state state (as_table p rows to))
+here_to : (p : Parts) (state : Row) (to : Target) (rows : TableRows) → MayEnter p to → HasShape p rows
+    → as_table p (sent_to p.entities state to rows) to ≡ Some (with_state state (as_table p rows to))
 here_to p state (targets.Block zero) rows m s = absurd (false≢true m)
 here_to p state (targets.Block (suc k)) rows m s = at_place state k rows.blocks (omega (arith, s.blocks, block_within p k m))
 here_to p state (targets.Chain e) rows m s = at_place state (chain_place p.entities e) rows.chains (omega (arith, s.chains, m))
@@ -109,7 +113,8 @@ idle_all_on s t es h g = All-weaker (IsIdle s) (IsIdle t) (λ e idle. idle_on s 
 abbrev Enters : Parts → FlowEdge → Type 0
 Enters p e = MayEnter p e.target
 
-pub fallen_all : (p : Parts) (es : List FlowEdge) (rows : TableRows) → All (Enters p) es → HasShape p rows → IsFallen (as_table p rows) (as_table p (all_sent p es rows))
+pub fallen_all : (p : Parts) (es : List FlowEdge) (rows : TableRows) → All (Enters p) es → HasShape p rows
+    → IsFallen (as_table p rows) (as_table p (all_sent p es rows))
 fallen_all p [] rows m s = fallen_itself (as_table p rows)
 fallen_all p (e ∷ es) rows m s =
     fallen_on (as_table p rows) (as_table p (send_edge p e rows)) (as_table p (all_sent p es (send_edge p e rows)))
@@ -138,21 +143,25 @@ within_is state row h =
     let second = and_parts (params_fit state.params row.params) (pointwise nat_eq row.facilities row.facilities) first.0 in
     and_from (params_fit state.params row.params) (units_fit state.units row.units) second.0 first.1
 
-none_changed_in : (p : Parts) (e : FlowEdge) (rows : TableRows) (o : Option Row) → as_table p rows e.target ≡ o → IsSomeAnd o (Within e.state) → (send_edge p e rows ≡ rows) × (change_of e.state o ≡ Same)
+none_changed_in : (p : Parts) (e : FlowEdge) (rows : TableRows) (o : Option Row) → as_table p rows e.target ≡ o
+    → IsSomeAnd o (Within e.state) → (send_edge p e rows ≡ rows) × (change_of e.state o ≡ Same)
 none_changed_in p e rows None is h = absurd h
 none_changed_in p e rows (Some row) is h =
     let within = within_is e.state row h in
     (same_to p e.state row e.target rows is (rw within refl), rw within refl)
 
-none_changed : (p : Parts) (e : FlowEdge) (rows : TableRows) → IsIdle (as_table p rows) e → (send_edge p e rows ≡ rows) × (change_of e.state (as_table p rows e.target) ≡ Same)
+none_changed : (p : Parts) (e : FlowEdge) (rows : TableRows) → IsIdle (as_table p rows) e → (send_edge p e rows ≡ rows)
+    × (change_of e.state (as_table p rows e.target) ≡ Same)
 none_changed p e rows h = none_changed_in p e rows (as_table p rows e.target) refl h
 
 -- edges that are idle change nothing
-pub idle_changes_none : (p : Parts) (es : List FlowEdge) (rows : TableRows) → All (IsIdle (as_table p rows)) es → (all_sent p es rows ≡ rows) × (changes_of p es rows ≡ Same)
+pub idle_changes_none : (p : Parts) (es : List FlowEdge) (rows : TableRows) → All (IsIdle (as_table p rows)) es
+    → (all_sent p es rows ≡ rows) × (changes_of p es rows ≡ Same)
 idle_changes_none p [] rows h = (refl, refl)
 idle_changes_none p (e ∷ es) rows h =
     let one = none_changed p e rows (All-head (IsIdle (as_table p rows)) e es h) in
-    let rest = idle_changes_none p es (send_edge p e rows) (subst (λ r. All (IsIdle (as_table p r)) es) (sym one.0) (All-tail (IsIdle (as_table p rows)) e es h)) in
+    let rest = idle_changes_none p es (send_edge p e rows)
+    (subst (λ r. All (IsIdle (as_table p r)) es) (sym one.0) (All-tail (IsIdle (as_table p rows)) e es h)) in
     (rest.0 ∙ one.0, rw one.1 rest.1)
 
 pub same_stays : (p : Parts) (e : FlowEdge) (rows : TableRows) → change_of e.state (as_table p rows e.target) ≡ Same → send_edge p e rows ≡ rows
@@ -160,14 +169,18 @@ same_stays p e rows h = (none_changed p e rows (idle_row e.state (as_table p row
 
 -- WHAT A BLOCK SENDS
 
-members_same : (s t : Table) (block : Block) → ((u : Unlink) → block ≡ blocks.Unlink u → t (targets.Chain u.chain) ≡ s (targets.Chain u.chain)) → members_edges t block ≡ members_edges s block
+members_same : (s t : Table) (block : Block)
+    → ((u : Unlink) → block ≡ blocks.Unlink u → t (targets.Chain u.chain) ≡ s (targets.Chain u.chain)) → members_edges t block ≡ members_edges s block
 members_same s t (blocks.Unlink u) h = ap (members_move u.target) (h u refl)
 members_same s t block h = refl
 
-edges_same : (p : Parts) (s t : Table) (b : ℕ) (block : Block) (row : Row) → members_edges t block ≡ members_edges s block → edges p t b block row ≡ edges p s b block row
+edges_same : (p : Parts) (s t : Table) (b : ℕ) (block : Block) (row : Row) → members_edges t block ≡ members_edges s block
+    → edges p t b block row ≡ edges p s b block row
 edges_same p s t b block row is = ap (λ (es : List FlowEdge). edges_from b block row ++ (joins block row ++ es)) is
 
-sends_same_in : (p : Parts) (s t : Table) (b : ℕ) (block : Option Block) (row : Option Row) → ((u : Unlink) → block ≡ Some (blocks.Unlink u) → t (targets.Chain u.chain) ≡ s (targets.Chain u.chain)) → sends_in p t b block row ≡ sends_in p s b block row
+sends_same_in : (p : Parts) (s t : Table) (b : ℕ) (block : Option Block) (row : Option Row)
+    → ((u : Unlink) → block ≡ Some (blocks.Unlink u) → t (targets.Chain u.chain) ≡ s (targets.Chain u.chain)) → sends_in p t b block row
+    ≡ sends_in p s b block row
 sends_same_in p s t b None row h = refl
 sends_same_in p s t b (Some block) None h = refl
 sends_same_in p s t b (Some block) (Some row) h =
@@ -175,7 +188,8 @@ sends_same_in p s t b (Some block) (Some row) h =
     (edges_same p s t b block row (members_same s t block (λ u is. h u (ap Some is))))
 
 -- a block whose row stays, and of an UNLINK its chain's row, sends what it sent
-pub sends_same : (p : Parts) (s t : Table) (b : ℕ) → t (targets.Block b) ≡ s (targets.Block b) → ((u : Unlink) → block_at p.blocks b ≡ Some (blocks.Unlink u) → t (targets.Chain u.chain) ≡ s (targets.Chain u.chain)) → sends p t b ≡ sends p s b
+pub sends_same : (p : Parts) (s t : Table) (b : ℕ) → t (targets.Block b) ≡ s (targets.Block b)
+    → ((u : Unlink) → block_at p.blocks b ≡ Some (blocks.Unlink u) → t (targets.Chain u.chain) ≡ s (targets.Chain u.chain)) → sends p t b ≡ sends p s b
 sends_same p s t b is h = ap (sends_in p t b (block_at p.blocks b)) is ∙ sends_same_in p s t b (block_at p.blocks b) (s (targets.Block b)) h
 
 -- MARKS
@@ -209,7 +223,8 @@ pub record UnlinksSoFar (bs : List Block) (before marks : List Bool) (i : ℕ) :
 pub so_far_start : (bs : List Block) (marks : List Bool) → UnlinksSoFar bs marks marks 0
 so_far_start bs marks = record { grow = grown_itself marks; marked = λ k u lt is. absurd (omega (arith, lt)) }
 
-pub so_far_unlink : (bs : List Block) (before marks : List Bool) (i : ℕ) → i < length marks → UnlinksSoFar bs before marks i → UnlinksSoFar bs before (set marks i true) (i + 1)
+pub so_far_unlink : (bs : List Block) (before marks : List Bool) (i : ℕ) → i < length marks → UnlinksSoFar bs before marks i
+    → UnlinksSoFar bs before (set marks i true) (i + 1)
 so_far_unlink bs before marks i within h = record {
   grow = grown_one before marks i h.grow;
   marked = λ k u lt is. ⊎_elim
@@ -218,7 +233,8 @@ so_far_unlink bs before marks i within h = record {
       (cases_eq k i);
 }
 
-pub so_far_other : (bs : List Block) (before marks : List Bool) (i : ℕ) → ((u : Unlink) → slice_get bs i ≡ Some (blocks.Unlink u) → ⊥) → UnlinksSoFar bs before marks i → UnlinksSoFar bs before marks (i + 1)
+pub so_far_other : (bs : List Block) (before marks : List Bool) (i : ℕ) → ((u : Unlink) → slice_get bs i ≡ Some (blocks.Unlink u) → ⊥)
+    → UnlinksSoFar bs before marks i → UnlinksSoFar bs before marks (i + 1)
 so_far_other bs before marks i none h = record {
   grow = h.grow;
   marked = λ k u lt is. ⊎_elim
@@ -237,7 +253,8 @@ so_far_all bs before marks i le h = record { grow = h.grow; marked = all }
 -- FOLLOWING
 
 module _ (p : Parts) where
-  follow_if : (before marks : List Bool) (s t : Table) (b : ℕ) (m : Bool) → is_marked marks b ≡ m → MarksGrow before marks → (is_marked marks b ≡ false → sends p t b ≡ sends p s b) → (is_marked marks b ≡ true) ⊎ ((is_marked before b ≡ false) × (sends p t b ≡ sends p s b))
+  follow_if : (before marks : List Bool) (s t : Table) (b : ℕ) (m : Bool) → is_marked marks b ≡ m → MarksGrow before marks
+      → (is_marked marks b ≡ false → sends p t b ≡ sends p s b) → (is_marked marks b ≡ true) ⊎ ((is_marked before b ≡ false) × (sends p t b ≡ sends p s b))
   follow_if before marks s t b true is grow h = inl is
   follow_if before marks s t b false is grow h = inr (unmarked (is_marked before b) refl, h is)
     where
@@ -245,13 +262,16 @@ module _ (p : Parts) where
       unmarked true was = absurd (false≢true (sym is ∙ grow.stay b was))
       unmarked false was = refl
 
-  pub follow_grown : (before marks : List Bool) (s t : Table) → MarksGrow before marks → ((b : ℕ) → is_marked marks b ≡ false → sends p t b ≡ sends p s b) → MarksFollow p before marks s t
+  pub follow_grown : (before marks : List Bool) (s t : Table) → MarksGrow before marks
+      → ((b : ℕ) → is_marked marks b ≡ false → sends p t b ≡ sends p s b) → MarksFollow p before marks s t
   follow_grown before marks s t grow h = record { length = grow.length; each = λ b. follow_if before marks s t b (is_marked marks b) refl grow (h b) }
 
   pub follow_itself : (marks : List Bool) (s : Table) → MarksFollow p marks marks s s
   follow_itself marks s = follow_grown marks marks s s (grown_itself marks) (λ b is. refl)
 
-  follow_each : (a b c : List Bool) (r s t : Table) (n : ℕ) → (is_marked b n ≡ true) ⊎ ((is_marked a n ≡ false) × (sends p s n ≡ sends p r n)) → (is_marked c n ≡ true) ⊎ ((is_marked b n ≡ false) × (sends p t n ≡ sends p s n)) → (is_marked c n ≡ true) ⊎ ((is_marked a n ≡ false) × (sends p t n ≡ sends p r n))
+  follow_each : (a b c : List Bool) (r s t : Table) (n : ℕ) → (is_marked b n ≡ true)
+      ⊎ ((is_marked a n ≡ false) × (sends p s n ≡ sends p r n)) → (is_marked c n ≡ true)
+      ⊎ ((is_marked b n ≡ false) × (sends p t n ≡ sends p s n)) → (is_marked c n ≡ true) ⊎ ((is_marked a n ≡ false) × (sends p t n ≡ sends p r n))
   follow_each a b c r s t n h (inl q) = inl q
   follow_each a b c r s t n (inl q) (inr g) = absurd (false≢true (sym g.0 ∙ q))
   follow_each a b c r s t n (inr h) (inr g) = inr (h.0, g.1 ∙ h.1)
@@ -265,17 +285,24 @@ module _ (p : Parts) where
 
   block_sends : (state : Row) (k : ℕ) (marks : List Bool) (rows : TableRows) → k < length marks → (b : ℕ) → is_marked (set marks k true) b ≡ false →
       sends p (as_table p (sent_to p.entities state (targets.Block (suc k)) rows)) b ≡ sends p (as_table p rows) b
-  block_sends state k marks rows lt zero is = sends_same p (as_table p rows) (as_table p (sent_to p.entities state (targets.Block (suc k)) rows)) zero refl (λ u there. refl)
+  block_sends state k marks rows lt zero is =
+      sends_same p (as_table p rows) (as_table p (sent_to p.entities state (targets.Block (suc k)) rows)) zero refl (λ u there. refl)
   block_sends state k marks rows lt (suc j) is =
       sends_same p (as_table p rows) (as_table p (sent_to p.entities state (targets.Block (suc k)) rows)) (suc j)
       (ap option_flatten (at_other state k j rows.blocks (unmarked_other marks k j lt is))) (λ u there. refl)
 
-  pub follow_change : (state : Row) (k : ℕ) (marks : List Bool) (rows : TableRows) (c : Change) → k < length marks → c ≡ change_of state (as_table p rows (targets.Block (suc k))) →
+  pub follow_change : (state : Row) (k : ℕ) (marks : List Bool) (rows : TableRows) (c : Change) → k < length marks → c
+      ≡ change_of state (as_table p rows (targets.Block (suc k))) →
       MarksFollow p marks (with_mark c k marks) (as_table p rows) (as_table p (sent_to p.entities state (targets.Block (suc k)) rows))
   follow_change state k marks rows Same lt is =
-      subst (λ r. MarksFollow p marks marks (as_table p rows) (as_table p r)) (sym (same_stays p (record { code = 0; target = targets.Block (suc k); state = state }) rows (sym is))) (follow_itself marks (as_table p rows))
-  follow_change state k marks rows Less lt is = follow_grown marks (set marks k true) (as_table p rows) (as_table p (sent_to p.entities state (targets.Block (suc k)) rows)) (grown_one marks marks k (grown_itself marks)) (block_sends state k marks rows lt)
-  follow_change state k marks rows More lt is = follow_grown marks (set marks k true) (as_table p rows) (as_table p (sent_to p.entities state (targets.Block (suc k)) rows)) (grown_one marks marks k (grown_itself marks)) (block_sends state k marks rows lt)
+      subst (λ r. MarksFollow p marks marks (as_table p rows) (as_table p r))
+      (sym (same_stays p (record { code = 0; target = targets.Block (suc k); state = state }) rows (sym is))) (follow_itself marks (as_table p rows))
+  follow_change state k marks rows Less lt is =
+      follow_grown marks (set marks k true) (as_table p rows) (as_table p (sent_to p.entities state (targets.Block (suc k)) rows))
+      (grown_one marks marks k (grown_itself marks)) (block_sends state k marks rows lt)
+  follow_change state k marks rows More lt is =
+      follow_grown marks (set marks k true) (as_table p rows) (as_table p (sent_to p.entities state (targets.Block (suc k)) rows))
+      (grown_one marks marks k (grown_itself marks)) (block_sends state k marks rows lt)
 
   -- and where that of a user chain has
   chain_sends : (state : Row) (e : ℕ) (marks after : List Bool) (rows : TableRows) → UnlinksMarked p.blocks marks after → (b : ℕ) → is_marked after b ≡ false →
@@ -284,13 +311,16 @@ module _ (p : Parts) where
       sends_same p (as_table p rows) (as_table p (sent_to p.entities state (targets.Chain e) rows)) b refl
       (λ u there. absurd (false≢true (sym is ∙ h.marked b u there)))
 
-  pub follow_chain : (state : Row) (e : ℕ) (marks after : List Bool) (rows next : TableRows) (c : Change) → c ≡ change_of state (as_table p rows (targets.Chain e)) → ((c ≡ Same) × (after ≡ marks)) ⊎ UnlinksMarked p.blocks marks after → next ≡ sent_to p.entities state (targets.Chain e) rows →
+  pub follow_chain : (state : Row) (e : ℕ) (marks after : List Bool) (rows next : TableRows) (c : Change) → c
+      ≡ change_of state (as_table p rows (targets.Chain e)) → ((c ≡ Same) × (after ≡ marks)) ⊎ UnlinksMarked p.blocks marks after → next
+      ≡ sent_to p.entities state (targets.Chain e) rows →
       MarksFollow p marks after (as_table p rows) (as_table p next)
   follow_chain state e marks after rows next c is (inl same) new =
       let stays : next ≡ rows = new ∙ same_stays p (record { code = 0; target = targets.Chain e; state = state }) rows (sym is ∙ same.0) in
       rw (same.1, stays) (follow_itself marks (as_table p rows))
   follow_chain state e marks after rows next c is (inr grown) new =
-      rw new (follow_grown marks after (as_table p rows) (as_table p (sent_to p.entities state (targets.Chain e) rows)) grown.grow (chain_sends state e marks after rows grown))
+      rw new (follow_grown marks after (as_table p rows) (as_table p (sent_to p.entities state (targets.Chain e) rows)) grown.grow
+      (chain_sends state e marks after rows grown))
 
   -- SUFFICING
 
@@ -311,11 +341,13 @@ module _ (p : Parts) where
       (h.each b)
 
   -- a block that isn't marked changes nothing
-  pub unmarked_changes_none : (marks : List Bool) (rows : TableRows) (b : ℕ) → MarksSuffice p marks rows → is_marked marks b ≡ false → (visit_block p b rows ≡ rows) × (change_at p b rows ≡ Same)
+  pub unmarked_changes_none : (marks : List Bool) (rows : TableRows) (b : ℕ) → MarksSuffice p marks rows → is_marked marks b ≡ false
+      → (visit_block p b rows ≡ rows) × (change_at p b rows ≡ Same)
   unmarked_changes_none marks rows b h is = idle_changes_none p (sends p (as_table p rows) b) rows (idle_unmarked marks rows b h is)
 
   -- a block that would change nothing needs no mark
-  pub suffice_without : (marks : List Bool) (k : ℕ) (rows : TableRows) → MarksSuffice p marks rows → IsIdleAt p (as_table p rows) (suc k) → MarksSuffice p (set marks k false) rows
+  pub suffice_without : (marks : List Bool) (k : ℕ) (rows : TableRows) → MarksSuffice p marks rows → IsIdleAt p (as_table p rows) (suc k)
+      → MarksSuffice p (set marks k false) rows
   suffice_without marks k rows h idle = record { length = length-set marks k false ∙ h.length; each = at }
     where
       at : (b : ℕ) → (is_marked (set marks k false) b ≡ true) ⊎ IsIdleAt p (as_table p rows) b
@@ -338,11 +370,14 @@ module _ (p : Parts) where
     still : (b : ℕ) → is_marked (set marks k false) b ≡ false → All (IsIdle next) (sends p before b)
     still zero is = idle_all_on before next (sends p before zero) fallen (none_sent p before zero refl)
     still (suc j) is = ⊎_elim
-        (λ (q : j ≡ k). subst (λ n. All (IsIdle next) (sends p before (suc n))) (sym q) (idle_all p (sends p before (suc k)) rows (sends_enter p (suc k) rows well sound) sound.shape))
-        (λ (ne : j ≢ k). idle_all_on before next (sends p before (suc j)) fallen (idle_unmarked marks rows (suc j) h (sym (get_or-set_other marks k j false false ne) ∙ is)))
+        (λ (q : j ≡ k). subst (λ n. All (IsIdle next) (sends p before (suc n))) (sym q)
+        (idle_all p (sends p before (suc k)) rows (sends_enter p (suc k) rows well sound) sound.shape))
+        (λ (ne : j ≢ k). idle_all_on before next (sends p before (suc j)) fallen
+        (idle_unmarked marks rows (suc j) h (sym (get_or-set_other marks k j false false ne) ∙ is)))
         (cases_eq j k)
 
-    each_after : (b : ℕ) → (is_marked after b ≡ true) ⊎ ((is_marked (set marks k false) b ≡ false) × (sends p next b ≡ sends p before b)) → (is_marked after b ≡ true) ⊎ IsIdleAt p next b
+    each_after : (b : ℕ) → (is_marked after b ≡ true) ⊎ ((is_marked (set marks k false) b ≡ false) × (sends p next b ≡ sends p before b))
+        → (is_marked after b ≡ true) ⊎ IsIdleAt p next b
     each_after b (inl q) = inl q
     each_after b (inr q) = inr (subst (All (IsIdle next)) (sym q.1) (still b q.0))
 
@@ -350,7 +385,9 @@ module _ (p : Parts) where
     suffice_after g = record { length = g.length ∙ length-set marks k false ∙ h.length; each = λ b. each_after b (g.each b) }
 
   -- and once one that is marked was visited
-  pub suffice_visited : (marks after : List Bool) (b : ℕ) (rows new : TableRows) → 1 ≤ b → IsWell p → AreSound p rows → MarksSuffice p marks rows → new ≡ visit_block p b rows → MarksFollow p (set marks (b - 1) false) after (as_table p rows) (as_table p new) → MarksSuffice p after new
+  pub suffice_visited : (marks after : List Bool) (b : ℕ) (rows new : TableRows) → 1 ≤ b → IsWell p → AreSound p rows
+      → MarksSuffice p marks rows → new ≡ visit_block p b rows
+      → MarksFollow p (set marks (b - 1) false) after (as_table p rows) (as_table p new) → MarksSuffice p after new
   suffice_visited marks after zero rows new first well sound h is g = absurd (omega (arith, first))
   suffice_visited marks after (suc k) rows new first well sound h is g =
       let place : suc k - 1 ≡ k = omega arith in

@@ -1,5 +1,6 @@
 -- Loops over the places of tables.
-use Rattle.std.proofs.Common.{◌≡◌, ◌≢◌, ⊎_elim, ℕ, zero, suc, ◌+◌, ◌<◌, ◌≤◌, List, [], ◌∷◌, ◌++◌, length, get_or, drop, Option, Some, None, refl, sym, ap, ap₂, subst, append_assoc, ◌∙◌, arith}
+use Rattle.std.proofs.Common.{◌≡◌, ◌≢◌, ⊎_elim, ℕ, zero, suc, ◌+◌, ◌<◌, ◌≤◌, List, [], ◌∷◌, ◌++◌, length, get_or, drop, Option, Some, None, refl, sym}
+use Rattle.std.proofs.Common.{ap, ap₂, subst, append_assoc, ◌∙◌, arith}
 use Rattle.std.specs.Prelude.{All, slice_get}
 use Rattle.std.proofs.lemmas.Option.{slice_get_within, get_or_from_slice_get}
 use Rattle.gw_rules.specs.Flow.{row_at}
@@ -18,8 +19,10 @@ use Rattle.gw_settle.proofs.Uniting.{drop_at}
 -- ROWS AFTER
 
 -- one place more
-pub places_more : (n : ℕ) (rows next all new : List (Option Row)) (i : ℕ) (d : Option Row) → i < length rows → length next ≡ length rows → new ≡ all ++ place_after n (get_or rows i d) (get_or next i d) ∷ [] →
-    all ++ places_after n (drop i rows) (drop i next) ≡ places_after n rows next → new ++ places_after n (drop (i + 1) rows) (drop (i + 1) next) ≡ places_after n rows next
+pub places_more : (n : ℕ) (rows next all new : List (Option Row)) (i : ℕ) (d : Option Row) → i < length rows → length next ≡ length rows
+    → new ≡ all ++ place_after n (get_or rows i d) (get_or next i d) ∷ [] →
+    all ++ places_after n (drop i rows) (drop i next) ≡ places_after n rows next → new
+    ++ places_after n (drop (i + 1) rows) (drop (i + 1) next) ≡ places_after n rows next
 places_more n rows next all new i d lt same is h =
     let first = place_after n (get_or rows i d) (get_or next i d) in
     let later = places_after n (drop (i + 1) rows) (drop (i + 1) next) in
@@ -54,7 +57,13 @@ module _ (n : ℕ) (rows next second last : List (Option Row)) where
   fall_on_more i d lt b c e here h k le =
       ⊎_elim
       (λ (q : k ≡ i).
-      let there : FallsOnAt i = rw (row_in_is rows i d lt, row_in_is next i d (omega (arith, lt, b)), row_in_is second i d (omega (arith, lt, c)), row_in_is last i d (omega (arith, lt, e))) here in
+      let there : FallsOnAt i =
+      rw (
+        row_in_is rows i d lt,
+        row_in_is next i d (omega (arith, lt, b)),
+        row_in_is second i d (omega (arith, lt, c)),
+        row_in_is last i d (omega (arith, lt, e)),
+      ) here in
       subst FallsOnAt (sym q) there)
       (λ (ne : k ≢ i). h k (omega (arith, le, ne)))
       (cases_eq k i)
@@ -73,7 +82,8 @@ falls_zero : (n next second last : ℕ) → FallsAlike n 0 next second last
 falls_zero n next second last = record { again = omega arith; left = λ lt. absurd (omega (arith, lt)); still = omega arith }
 
 -- what holds of each amount of a list, and of none, holds of what is read of each entity
-amounts_read : (P : ℕ → ℕ → Type 0) → ((e : ℕ) → P e 0) → (us : List Amount) → All (λ (a : Amount). P a.entity a.number) us → (e : ℕ) → P e (amount_of (amounts_of us) e)
+amounts_read : (P : ℕ → ℕ → Type 0) → ((e : ℕ) → P e 0) → (us : List Amount) → All (λ (a : Amount). P a.entity a.number) us → (e : ℕ)
+    → P e (amount_of (amounts_of us) e)
 amounts_read P none [] h e = none e
 amounts_read P none (u ∷ us) h e =
     ⊎_elim
@@ -82,10 +92,13 @@ amounts_read P none (u ∷ us) h e =
     (cases_eq u.entity e)
 
 -- a row falls on where each amount of its list does
-pub amounts_fall_on : (n : ℕ) (row next second last : Row) (us : List Amount) → amounts_of us ≡ row.units → All (λ (a : Amount). FallsAlike n a.number (units_of next a.entity) (units_of second a.entity) (units_of last a.entity)) us → (e : ℕ) → AmountFallsOn n row next second last e
+pub amounts_fall_on : (n : ℕ) (row next second last : Row) (us : List Amount) → amounts_of us ≡ row.units
+    → All (λ (a : Amount). FallsAlike n a.number (units_of next a.entity) (units_of second a.entity) (units_of last a.entity)) us → (e : ℕ)
+    → AmountFallsOn n row next second last e
 amounts_fall_on n row next second last us is h e =
     subst (λ es. FallsAlike n (amount_of es e) (units_of next e) (units_of second e) (units_of last e)) is
-    (amounts_read (λ x m. FallsAlike n m (units_of next x) (units_of second x) (units_of last x)) (λ x. falls_zero n (units_of next x) (units_of second x) (units_of last x)) us h e)
+    (amounts_read (λ x m. FallsAlike n m (units_of next x) (units_of second x) (units_of last x))
+    (λ x. falls_zero n (units_of next x) (units_of second x) (units_of last x)) us h e)
 
 -- RULES ON UNITS
 
@@ -94,7 +107,8 @@ abbrev pub DecidedTo : List Block → List (Option Row) → List (Option Row) �
 DecidedTo bs near last i = (k : ℕ) → k < i → (block : Block) → slice_get bs k ≡ Some block → IsBlockDecided block (row_in near k) (row_in last k)
 
 -- one block more
-pub decided_more : (bs : List Block) (near last : List (Option Row)) (i : ℕ) (b : Block) (x y : Option Row) → i < length near → i < length last → b ≡ get_or bs i b → x ≡ get_or near i x → y ≡ get_or last i y → IsBlockDecided b x y →
+pub decided_more : (bs : List Block) (near last : List (Option Row)) (i : ℕ) (b : Block) (x y : Option Row) → i < length near → i
+    < length last → b ≡ get_or bs i b → x ≡ get_or near i x → y ≡ get_or last i y → IsBlockDecided b x y →
     DecidedTo bs near last i → DecidedTo bs near last (i + 1)
 decided_more bs near last i b x y ltn ltl eb ex ey here h k le block is =
     ⊎_elim

@@ -23,9 +23,12 @@ pub reached_next : (p : Parts) (now new : TableRows) → AreReached p now → ne
 reached_next p now new h is = (suc h.0, is ∙ ap (round p) h.1)
 
 -- what fell in a round
-pub fell : (p : Parts) (now new : TableRows) (change : Change) → IsWell p → AreReached p now → new ≡ round p now → change_to p (length p.blocks) now ≡ change → Falls (length p.blocks + 1) change now new
+pub fell : (p : Parts) (now new : TableRows) (change : Change) → IsWell p → AreReached p now → new ≡ round p now
+    → change_to p (length p.blocks) now ≡ change → Falls (length p.blocks + 1) change now new
 fell p now new change well h is changes =
-    subst (λ d. Falls (length p.blocks + 1) d now new) changes (subst (Falls (length p.blocks + 1) (change_to p (length p.blocks) now) now) (sym is) (falls_to p (length p.blocks) now well (reached_sound p now well h)))
+    subst (λ d. Falls (length p.blocks + 1) d now new) changes
+    (subst (Falls (length p.blocks + 1) (change_to p (length p.blocks) now) now) (sym is)
+    (falls_to p (length p.blocks) now well (reached_sound p now well h)))
 
 -- a round that changed nothing was the last
 pub last_same : (p : Parts) (now new : TableRows) → IsWell p → AreReached p now → new ≡ round p now → change_to p (length p.blocks) now ≡ Same → new ≡ now

@@ -26,7 +26,8 @@ abbrev pub IsPlaceFor : ℕ → List Amount → ℕ → Type 0
 IsPlaceFor e us i = IsPartitionPoint (λ (a : Amount). nat_lt a.entity e ≡ true) (λ (a : Amount). nat_lt a.entity e ≡ false) us i
 
 -- where an entity stands there are its units
-pub units_there : (us : List Amount) (i e : ℕ) (d : Amount) → AmountsAscend us → i < length us → (get_or us i d).entity ≡ e → (get_or us i d).number ≡ amount_of (amounts_of us) e
+pub units_there : (us : List Amount) (i e : ℕ) (d : Amount) → AmountsAscend us → i < length us → (get_or us i d).entity ≡ e
+    → (get_or us i d).number ≡ amount_of (amounts_of us) e
 units_there us i e d up within is =
     rw (← is) (sym (ap (λ o. unwrap_or o 0) (entry_own (λ (a : Amount). a.entity) (λ (a : Amount). a.number) us i d up within)))
 
@@ -36,7 +37,8 @@ nowhere [] e d h = refl
 nowhere (u ∷ us) e d h = rw (ne_eqb u.entity e (h 0 (omega arith))) (nowhere us e d (λ k within. h (suc k) (omega (arith, within))))
 
 -- it stands at its place, or nowhere
-pub units_nowhere : (us : List Amount) (i e : ℕ) (d : Amount) → AmountsAscend us → IsPlaceFor e us i → (i < length us → (get_or us i d).entity ≢ e) → 0 ≡ amount_of (amounts_of us) e
+pub units_nowhere : (us : List Amount) (i e : ℕ) (d : Amount) → AmountsAscend us → IsPlaceFor e us i
+    → (i < length us → (get_or us i d).entity ≢ e) → 0 ≡ amount_of (amounts_of us) e
 units_nowhere us i e d up point other =
     nowhere us e d (λ k within.
     ⊎_elim

@@ -1,5 +1,6 @@
 -- What a block sends leads where it may enter, with returns that a TRANSFER to a subroutine keeps.
-use Rattle.std.proofs.Common.{◌≡◌, ⊎_elim, ℕ, ◌+◌, List, [], ◌∷◌, ◌++◌, map, option_map, option_to_list, Option, Some, None, Bool, true, false, ◌||◌, ◌==◌, if◌then◌else◌, refl, sym, ap, subst, ◌∙◌}
+use Rattle.std.proofs.Common.{◌≡◌, ⊎_elim, ℕ, ◌+◌, List, [], ◌∷◌, ◌++◌, map, option_map, option_to_list, Option, Some, None, Bool, true, false, ◌||◌}
+use Rattle.std.proofs.Common.{◌==◌, if◌then◌else◌, refl, sym, ap, subst, ◌∙◌}
 use Rattle.std.specs.Prelude.{All, IfSome, ◌<◌}
 use Rattle.std.proofs.lemmas.Bool.{eq-eqb, eqb-true, or_cases, false≢true}
 use Rattle.std.proofs.lemmas.List.Elements.{All-nil, All-cons, All-head, All-tail, All-append}
@@ -22,7 +23,8 @@ use Rattle.gw_rules.specs.declared.set_parameters.Parameter.{Parameter}
 use Rattle.gw_rules.specs.Entries.{lists, entry}
 use Rattle.gw_rules.specs.Rows.{Row, ParamKind, Num, Ret, kind_of, return_blocks}
 use Rattle.gw_rules.specs.Seen.{kind_seen}
-use Rattle.gw_rules.specs.Blocks.{Table, number_in, parameter_set, with_setting, after, returns_read, move, is_used, known_of, edge_along, edges_along, edges_from, join, members_move, members_edges, chain_edges, edges}
+use Rattle.gw_rules.specs.Blocks.{Table, number_in, parameter_set, with_setting, after, returns_read, move, is_used, known_of, edge_along}
+use Rattle.gw_rules.specs.Blocks.{edges_along, edges_from, join, members_move, members_edges, chain_edges, edges}
 use Rattle.gw_rules.proofs.Entries.{entry-with_entry}
 use Rattle.gw_rules.proofs.EachBlock.{All-front, All-back}
 use Rattle.gw_rules.proofs.Chains.{ChainUse, Links, Unlinks, Neither, chain_use}
@@ -44,7 +46,8 @@ All-unmap P f (x ∷ xs) h = All-cons (λ x. P (f x)) x xs (All-head P (f x) (ma
 
 -- each way on from a block leads to one that may be entered, and each LINK to a user chain
 pub record LeadsWell (p : Parts) : Type 0 where
-  pub ways : (b : ℕ) (block : Block) → block_at p.blocks b ≡ Some block → All (λ (way : Way). may_enter (block_at p.blocks (leads_to b way)) ≡ true) (ways_on block)
+  pub ways : (b : ℕ) (block : Block) → block_at p.blocks b ≡ Some block
+      → All (λ (way : Way). may_enter (block_at p.blocks (leads_to b way)) ≡ true) (ways_on block)
   pub links : (b : ℕ) (l : Link) → block_at p.blocks b ≡ Some (blocks.Link l) → chain_place p.entities l.chain < chains_in p.entities
 
 module _ (p : Parts) where
@@ -81,7 +84,8 @@ module _ (p : Parts) where
   set_grounded b (blocks.Assign a) is = tt
   set_grounded b block is = tt
 
-  kind_if : (same : Bool) (m q : ℕ) (kind held : Option ParamKind) → (same ≡ true → m ≡ q) → IsKindGrounded p m kind → IsKindGrounded p q held → IsKindGrounded p q (if same then kind else held)
+  kind_if : (same : Bool) (m q : ℕ) (kind held : Option ParamKind) → (same ≡ true → m ≡ q) → IsKindGrounded p m kind
+      → IsKindGrounded p q held → IsKindGrounded p q (if same then kind else held)
   kind_if true m q kind held e h g = subst (λ n. IsKindGrounded p n kind) (e refl) h
   kind_if false m q kind held e h g = g
 
@@ -101,7 +105,8 @@ module _ (p : Parts) where
   grounded_known Itself row g = g
   grounded_known (Copies n) row g = g
 
-  sound_if : (used : Bool) (to : ℕ) (row : Row) → IsGrounded p row → may_enter (block_at p.blocks to) ≡ true → All IsSound (if used then move to row ∷ [] else [])
+  sound_if : (used : Bool) (to : ℕ) (row : Row) → IsGrounded p row → may_enter (block_at p.blocks to) ≡ true
+      → All IsSound (if used then move to row ∷ [] else [])
   sound_if true to row g e = All-cons IsSound (move to row) [] (g, e) (All-nil IsSound)
   sound_if false to row g e = All-nil IsSound
 
@@ -113,17 +118,21 @@ module _ (p : Parts) where
       (sound_along b es passed g (All-tail (Enters b) e es h))
 
   module _ (well : LeadsWell p) where
-    ways_of : (b : ℕ) (block : Block) → block_at p.blocks b ≡ Some block → All (λ (way : Way). may_enter (block_at p.blocks (leads_to b way)) ≡ true) (ways_on block)
+    ways_of : (b : ℕ) (block : Block) → block_at p.blocks b ≡ Some block
+        → All (λ (way : Way). may_enter (block_at p.blocks (leads_to b way)) ≡ true) (ways_on block)
     ways_of b block is = well.ways b block is
 
     own_exits : (b : ℕ) (block : Block) → block_at p.blocks b ≡ Some block → All (Enters b) (exits block)
     own_exits b block is =
         All-unmap (λ (way : Way). may_enter (block_at p.blocks (leads_to b way)) ≡ true) (λ (exit : Exit). exit.way) (exits block)
-        (All-front (λ (way : Way). may_enter (block_at p.blocks (leads_to b way)) ≡ true) (map (λ (exit : Exit). exit.way) (exits block)) (option_to_list (other_way block)) (ways_of b block is))
+        (All-front (λ (way : Way). may_enter (block_at p.blocks (leads_to b way)) ≡ true) (map (λ (exit : Exit). exit.way) (exits block))
+        (option_to_list (other_way block)) (ways_of b block is))
 
-    other_enters : (b : ℕ) (block : Block) → block_at p.blocks b ≡ Some block → All (λ (way : Way). may_enter (block_at p.blocks (leads_to b way)) ≡ true) (option_to_list (other_way block))
+    other_enters : (b : ℕ) (block : Block) → block_at p.blocks b ≡ Some block
+        → All (λ (way : Way). may_enter (block_at p.blocks (leads_to b way)) ≡ true) (option_to_list (other_way block))
     other_enters b block is =
-        All-back (λ (way : Way). may_enter (block_at p.blocks (leads_to b way)) ≡ true) (map (λ (exit : Exit). exit.way) (exits block)) (option_to_list (other_way block)) (ways_of b block is)
+        All-back (λ (way : Way). may_enter (block_at p.blocks (leads_to b way)) ≡ true) (map (λ (exit : Exit). exit.way) (exits block))
+        (option_to_list (other_way block)) (ways_of b block is)
 
     -- the block after one that calls a subroutine
     after_call : (b q : ℕ) (block : Option Block) → block_at p.blocks b ≡ block → sets_return block q ≡ true → may_enter (block_at p.blocks (b + 1)) ≡ true
@@ -148,7 +157,8 @@ module _ (p : Parts) where
     kind_enters b q (Some Num) h = All-nil (Enters b)
     kind_enters b q (Some (Ret bs)) h = returns_enter b q bs h.each
 
-    exits_enter : (b : ℕ) (block : Block) (row : Row) → ReturnUse block → block_at p.blocks b ≡ Some block → IsGrounded p row → All (Enters b) (exits_with (returns_read block row) block)
+    exits_enter : (b : ℕ) (block : Block) (row : Row) → ReturnUse block → block_at p.blocks b ≡ Some block → IsGrounded p row
+        → All (Enters b) (exits_with (returns_read block row) block)
     exits_enter b _ row (Returns q) is g = kind_enters b q (kind_of row q) (g q)
     exits_enter b block row (Leads own) is g = subst (All (Enters b)) (sym (own (returns_read block row))) (own_exits b block is)
 
@@ -158,7 +168,8 @@ module _ (p : Parts) where
     sound_members to None g e = All-nil IsSound
     sound_members to (Some row) g e = All-cons IsSound (record (move to row) { code = 26 }) [] (g, e) (All-nil IsSound)
 
-    sound_chains : (table : Table) (b : ℕ) (block : Block) (row : Row) → ChainUse block → block_at p.blocks b ≡ Some block → IsGrounded p row → ((x : Target) → IfSome (table x) (IsGrounded p)) → All IsSound (chain_edges table block row)
+    sound_chains : (table : Table) (b : ℕ) (block : Block) (row : Row) → ChainUse block → block_at p.blocks b ≡ Some block
+        → IsGrounded p row → ((x : Target) → IfSome (table x) (IsGrounded p)) → All IsSound (chain_edges table block row)
     sound_chains table b _ row (Links l) is g h = All-cons IsSound (join l.chain row) [] (g, well.links b l is) (All-nil IsSound)
     sound_chains table b _ row (Unlinks u) is g h =
         sound_members u.target (table (targets.Chain u.chain)) (h (targets.Chain u.chain))
@@ -167,8 +178,10 @@ module _ (p : Parts) where
         subst (λ es. All IsSound (es ++ members_edges table block)) (sym (none row)) (subst (All IsSound) (sym (members table)) (All-nil IsSound))
 
     -- each edge of a block is sound
-    pub sound_edges : (table : Table) (b : ℕ) (block : Block) (row : Row) → block_at p.blocks b ≡ Some block → IsGrounded p row → ((x : Target) → IfSome (table x) (IsGrounded p)) → All IsSound (edges p table b block row)
+    pub sound_edges : (table : Table) (b : ℕ) (block : Block) (row : Row) → block_at p.blocks b ≡ Some block → IsGrounded p row
+        → ((x : Target) → IfSome (table x) (IsGrounded p)) → All IsSound (edges p table b block row)
     sound_edges table b block row is g h =
         All-append IsSound (edges_from b block row) (chain_edges table block row)
-        (sound_along b (exits_with (returns_read block row) block) (after b block row) (grounded_after b block row is g) (exits_enter b block row (return_use block) is g))
+        (sound_along b (exits_with (returns_read block row) block) (after b block row) (grounded_after b block row is g)
+        (exits_enter b block row (return_use block) is g))
         (sound_chains table b block row (chain_use block) is g h)

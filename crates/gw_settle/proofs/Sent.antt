@@ -1,5 +1,6 @@
 -- What a block sends, and what is written of it.
-use Rattle.std.proofs.Common.{◌≡◌, ℕ, zero, suc, ◌<◌, get_or, length, List, [], ◌∷◌, ◌++◌, map, slice_set, Option, Some, None, Bool, true, false, ◌&&◌, if◌then◌else◌, refl, sym, ap, subst, append_assoc, ◌∙◌}
+use Rattle.std.proofs.Common.{◌≡◌, ℕ, zero, suc, ◌<◌, get_or, length, List, [], ◌∷◌, ◌++◌, map, slice_set, Option, Some, None, Bool, true, false}
+use Rattle.std.proofs.Common.{◌&&◌, if◌then◌else◌, refl, sym, ap, subst, append_assoc, ◌∙◌}
 use Rattle.std.specs.Prelude.{slice_get, is_err, Result, Ok, Err}
 use Rattle.std.proofs.lemmas.Bool.{false≢true}
 use Rattle.std.proofs.lemmas.Option.{slice_get-get_or}
@@ -18,13 +19,15 @@ use Rattle.gw_rules.specs.Flow.{rule_check}
 use Rattle.gw_settle.specs.declared.table.Change.{Change}
 use Rattle.gw_settle.specs.declared.table.Change.TheVariants.{Same, Less, More}
 use Rattle.gw_settle.specs.Joins.{is_within, with_state}
-use Rattle.gw_settle.specs.Rounds.{TableRows, as_table, sent_at, send_edge, all_sent, members_in, members_from, sends_in, sends, change_of, followed_by, changes_of}
+use Rattle.gw_settle.specs.Rounds.{TableRows, as_table, sent_at, send_edge, all_sent, members_in, members_from, sends_in, sends, change_of}
+use Rattle.gw_settle.specs.Rounds.{followed_by, changes_of}
 use Rattle.gw_settle.specs.Keeps.{HasShape}
 use Rattle.gw_settle.proofs.Rows.{shape_sent}
 
 -- RULES
 
-hold_if : (b : ℕ) (rule : Rule) (holds : Bool) (rest : Option Fault) → (if holds then rest else Some (rule_check b rule).fault) ≡ None → (holds ≡ true) × (rest ≡ None)
+hold_if : (b : ℕ) (rule : Rule) (holds : Bool) (rest : Option Fault) → (if holds then rest else Some (rule_check b rule).fault) ≡ None
+    → (holds ≡ true) × (rest ≡ None)
 hold_if b rule true rest h = (refl, h)
 hold_if b rule false rest h = absurd (cc)
 
@@ -40,7 +43,8 @@ broken_if true all h = h refl
 broken_if false all h = refl
 
 -- where one is broken not all hold
-pub rules_broken : (b : ℕ) (rs : List Rule) (fault : Fault) → first_broken (map (rule_check b) rs) ≡ Some fault → list_all (λ (rule : Rule). rule.holds) rs ≡ false
+pub rules_broken : (b : ℕ) (rs : List Rule) (fault : Fault) → first_broken (map (rule_check b) rs) ≡ Some fault
+    → list_all (λ (rule : Rule). rule.holds) rs ≡ false
 rules_broken b [] fault h = absurd (cc)
 rules_broken b (r ∷ rs) fault h = broken_if r.holds (list_all (λ (rule : Rule). rule.holds) rs) (λ holds. rules_broken b rs fault (rw holds at h))
 
@@ -51,7 +55,8 @@ members_are table (blocks.Unlink u) = refl
 members_are table block = refl
 
 -- a block's edges are its own, and that of members
-pub edges_are : (p : Parts) (table : Table) (b : ℕ) (block : Block) (row : Row) (members : Option Row) → members ≡ members_in table block → list_all (λ (rule : Rule). rule.holds) (rules p block row) ≡ true →
+pub edges_are : (p : Parts) (table : Table) (b : ℕ) (block : Block) (row : Row) (members : Option Row) → members ≡ members_in table block
+    → list_all (λ (rule : Rule). rule.holds) (rules p block row) ≡ true →
     (edges_from b block row ++ joins block row) ++ members_from block members ≡ sends_in p table b (Some block) (Some row)
 edges_are p table b block row members is holds =
     let all : (edges_from b block row ++ joins block row) ++ members_from block members ≡ edges p table b block row =
@@ -59,7 +64,8 @@ edges_are p table b block row members is holds =
     ∙ ap (λ (es : List FlowEdge). edges_from b block row ++ (joins block row ++ es)) (ap (members_from block) is ∙ sym (members_are table block)) in
     all ∙ rw holds refl
 
-pub edges_none : (p : Parts) (table : Table) (b : ℕ) (block : Block) (row : Row) → list_all (λ (rule : Rule). rule.holds) (rules p block row) ≡ false → [] ≡ sends_in p table b (Some block) (Some row)
+pub edges_none : (p : Parts) (table : Table) (b : ℕ) (block : Block) (row : Row)
+    → list_all (λ (rule : Rule). rule.holds) (rules p block row) ≡ false → [] ≡ sends_in p table b (Some block) (Some row)
 edges_none p table b block row broken = rw broken refl
 
 -- what a test that found a fault, or none, says
@@ -72,7 +78,8 @@ none_found (Ok x) cs is h = h
 none_found (Err fault) cs is h = absurd (false≢true (sym is))
 
 -- what a block sends that is there, in its row
-pub sends_are : (p : Parts) (table : Table) (b : ℕ) (block : Block) (row : Row) → block_at p.blocks b ≡ Some block → table (targets.Block b) ≡ Some row → sends_in p table b (Some block) (Some row) ≡ sends p table b
+pub sends_are : (p : Parts) (table : Table) (b : ℕ) (block : Block) (row : Row) → block_at p.blocks b ≡ Some block
+    → table (targets.Block b) ≡ Some row → sends_in p table b (Some block) (Some row) ≡ sends p table b
 sends_are p table b block row is has = rw (is, has) refl
 
 -- ONE ROW
@@ -82,13 +89,15 @@ pub full_at : {X : Type 0} (xs : List X) (k : ℕ) (d x : X) → k < length xs �
 full_at xs k d x lt is = slice_get-get_or xs k d lt ∙ ap Some is
 
 -- a row that is written where a state was sent
-pub set_is : (state : Row) (k : ℕ) (rows : List (Option Row)) (row : Option Row) → slice_get rows k ≡ Some row → slice_set rows k (Some (with_state state row)) ≡ sent_at state k rows
+pub set_is : (state : Row) (k : ℕ) (rows : List (Option Row)) (row : Option Row) → slice_get rows k ≡ Some row
+    → slice_set rows k (Some (with_state state row)) ≡ sent_at state k rows
 set_is state k [] row is = absurd (cc)
 set_is state zero (x ∷ rows) row is = let same : row ≡ x = cc in ap (λ r. Some (with_state state r) ∷ rows) same
 set_is state (suc k) (x ∷ rows) row is = ap (λ xs. x ∷ xs) (set_is state k rows row is)
 
 -- a row that stays
-pub stays_is : (state : Row) (k : ℕ) (rows : List (Option Row)) (row : Row) → slice_get rows k ≡ Some (Some row) → is_within state row ≡ true → rows ≡ sent_at state k rows
+pub stays_is : (state : Row) (k : ℕ) (rows : List (Option Row)) (row : Row) → slice_get rows k ≡ Some (Some row) → is_within state row
+    ≡ true → rows ≡ sent_at state k rows
 stays_is state k [] row is within = refl
 stays_is state zero (x ∷ rows) row is within =
     let same : Some row ≡ x = cc in
@@ -125,5 +134,6 @@ same_after Same = refl
 same_after Less = refl
 same_after More = refl
 
-pub sending_done : (p : Parts) (all : List FlowEdge) (start now : TableRows) (change : Change) → Sending p all [] start now change → (now ≡ all_sent p all start) × (change ≡ changes_of p all start)
+pub sending_done : (p : Parts) (all : List FlowEdge) (start now : TableRows) (change : Change) → Sending p all [] start now change
+    → (now ≡ all_sent p all start) × (change ≡ changes_of p all start)
 sending_done p all start now change h = (h.rows, sym (same_after change) ∙ h.changes)

@@ -1,5 +1,7 @@
 -- Rows of one version, and what a block sends that sets the parameter in which its row has changed.
-use Rattle.std.proofs.Common.{◌≡◌, ◌≢◌, ◌⊎◌, inl, inr, ⊎_elim, ℕ, zero, suc, ◌+◌, ◌-◌, ◌<◌, ◌≤◌, List, [], ◌∷◌, map, filter, length, get_or, set, slice_set, replicate, Option, Some, None, Bool, true, false, not, ◌==◌, nat_lt, if◌then◌else◌, refl, sym, ap, subst, ◌∙◌, arith}
+use Rattle.std.proofs.Common.{◌≡◌, ◌≢◌, ◌⊎◌, inl, inr, ⊎_elim, ℕ, zero, suc, ◌+◌, ◌-◌, ◌<◌, ◌≤◌, List, [], ◌∷◌, map, filter, length, get_or, set}
+use Rattle.std.proofs.Common.{slice_set, replicate, Option, Some, None, Bool, true, false, not, ◌==◌, nat_lt, if◌then◌else◌, refl, sym, ap, subst}
+use Rattle.std.proofs.Common.{◌∙◌, arith}
 use Rattle.std.specs.Prelude.{All, IsSomeAnd, slice_get, option_to_list}
 use Rattle.std.specs.Option.{option_flatten}
 use Rattle.std.proofs.lemmas.Bool.{cases_eq, false≢true, eqb-true, eq-eqb, ltb-true, ne_eqb}
@@ -25,7 +27,9 @@ use Rattle.gw_settle.specs.Joins.{is_within, with_state}
 use Rattle.gw_settle.specs.Keeps.{MayEnter, sets_return, IsIdle, IsIdleAt}
 use Rattle.gw_settle.specs.Marks.{MarksFollow}
 use Rattle.gw_settle.specs.Rounds.{rows_of, as_table, sent_at, all_sent, sends_in, sends, visit_block, change_of, followed_by, changes_of, change_at}
-use Rattle.gw_settle.specs.Versions.{AreOf, AreAtMost, IsFound, AreVersions, HaveVersion, IsOneVersion, IsReturnAt, IsGiven, without_version, SaySameBut, Makes, IsSharing, moves_behind, sent_behind, change_behind, goes_on_to, blocks_behind, numbers_behind, rules_hold, SendsBehind}
+use Rattle.gw_settle.specs.Versions.{AreOf, AreAtMost, IsFound, AreVersions, HaveVersion, IsOneVersion, IsReturnAt, IsGiven, without_version}
+use Rattle.gw_settle.specs.Versions.{SaySameBut, Makes, IsSharing, moves_behind, sent_behind, change_behind, goes_on_to, blocks_behind}
+use Rattle.gw_settle.specs.Versions.{numbers_behind, rules_hold, SendsBehind}
 use Rattle.gw_settle.proofs.Rows.{length-changed, at_place, at_other, block_within}
 use Rattle.gw_settle.proofs.Falling.{same_rows}
 use Rattle.gw_settle.proofs.Sent.{set_is, sends_are}
@@ -34,7 +38,8 @@ use Rattle.gw_settle.proofs.Marking.{grown_itself, follow_grown, sends_same}
 -- FILTERS
 
 -- what passes one test passes another: only what passes that one counts
-filter_step : {X : Type 0} (p r : X → Bool) (x : X) (xs : List X) (a b : Bool) → p x ≡ a → r x ≡ b → (a ≡ true → b ≡ true) → filter p (filter r xs) ≡ filter p xs → filter p (filter r (x ∷ xs)) ≡ filter p (x ∷ xs)
+filter_step : {X : Type 0} (p r : X → Bool) (x : X) (xs : List X) (a b : Bool) → p x ≡ a → r x ≡ b → (a ≡ true → b ≡ true)
+    → filter p (filter r xs) ≡ filter p xs → filter p (filter r (x ∷ xs)) ≡ filter p (x ∷ xs)
 filter_step p r x xs true true is also h rest = rw (also, is) (ap (λ ys. x ∷ ys) rest)
 filter_step p r x xs true false is also h rest = absurd (false≢true (h refl))
 filter_step p r x xs false true is also h rest = rw (also, is) rest
@@ -50,28 +55,35 @@ lt_ne m n is = rw (ne_eqb m n (λ e. omega (arith, e, ltb-true m n is))) refl
 gt_ne : (m n : ℕ) → nat_lt n m ≡ true → not (m == n) ≡ true
 gt_ne m n is = rw (ne_eqb m n (λ e. omega (arith, e, ltb-true n m is))) refl
 
-same_filtered : (q : ℕ) (p : ℕ × ParamKind → Bool) (es fs : List (ℕ × ParamKind)) → ((e : ℕ × ParamKind) → p e ≡ true → not (e.0 == q) ≡ true) → filter (λ e. not (e.0 == q)) es ≡ filter (λ e. not (e.0 == q)) fs → filter p es ≡ filter p fs
+same_filtered : (q : ℕ) (p : ℕ × ParamKind → Bool) (es fs : List (ℕ × ParamKind))
+    → ((e : ℕ × ParamKind) → p e ≡ true → not (e.0 == q) ≡ true) → filter (λ e. not (e.0 == q)) es ≡ filter (λ e. not (e.0 == q)) fs → filter p es ≡ filter p fs
 same_filtered q p es fs h is = sym (filter_within p (λ e. not (e.0 == q)) es h) ∙ ap (filter p) is ∙ filter_within p (λ e. not (e.0 == q)) fs h
 
 -- a parameter that is set anew
-same_with : (q : ℕ) (kind : ParamKind) (es fs : List (ℕ × ParamKind)) → filter (λ e. not (e.0 == q)) es ≡ filter (λ e. not (e.0 == q)) fs → with_entry q (Some kind) es ≡ with_entry q (Some kind) fs
+same_with : (q : ℕ) (kind : ParamKind) (es fs : List (ℕ × ParamKind)) → filter (λ e. not (e.0 == q)) es ≡ filter (λ e. not (e.0 == q)) fs
+    → with_entry q (Some kind) es ≡ with_entry q (Some kind) fs
 same_with q kind es fs is =
     let below = same_filtered q (λ e. nat_lt e.0 q) es fs (λ e h. lt_ne e.0 q h) is in
     let above = same_filtered q (λ e. nat_lt q e.0) es fs (λ e h. gt_ne e.0 q h) is in
     rw (below, above) refl
 
 same_row : (row other : Row) → row.params ≡ other.params → row.facilities ≡ other.facilities → row.units ≡ other.units → row ≡ other
-same_row row other a b c = ap (λ ps. record row { params = ps }) a ∙ ap (λ fs. record row { params = other.params; facilities = fs }) b ∙ ap (λ us. record row { params = other.params; facilities = other.facilities; units = us }) c
+same_row row other a b c = ap (λ ps. record row { params = ps }) a ∙ ap (λ fs. record row { params = other.params; facilities = fs }) b
+    ∙ ap (λ us. record row { params = other.params; facilities = other.facilities; units = us }) c
 
 -- a TRANSFER to a subroutine sends what it sent where its own parameter alone has changed
-call_sends : (p : Parts) (s t : Table) (b : ℕ) (c : Call) (row other : Row) → SaySameBut c.parameter row other → sends_in p t b (Some (blocks.TransferToSubroutine c)) (Some other) ≡ sends_in p s b (Some (blocks.TransferToSubroutine c)) (Some row)
+call_sends : (p : Parts) (s t : Table) (b : ℕ) (c : Call) (row other : Row) → SaySameBut c.parameter row other
+    → sends_in p t b (Some (blocks.TransferToSubroutine c)) (Some other) ≡ sends_in p s b (Some (blocks.TransferToSubroutine c)) (Some row)
 call_sends p s t b c row other h =
-    let passed : after b (blocks.TransferToSubroutine c) other ≡ after b (blocks.TransferToSubroutine c) row = same_row _ _ (sym (same_with c.parameter _ row.params other.params h.params)) (sym h.facilities) (sym h.units) in
+    let passed : after b (blocks.TransferToSubroutine c) other ≡ after b (blocks.TransferToSubroutine c) row =
+    same_row _ _ (sym (same_with c.parameter _ row.params other.params h.params)) (sym h.facilities) (sym h.units) in
     ap (λ state. move c.target state ∷ []) passed
 
-pub return_sends : (p : Parts) (s t : Table) (b q : ℕ) (block : Option Block) (row other : Row) → sets_return block q ≡ true → SaySameBut q row other → sends_in p t b block (Some other) ≡ sends_in p s b block (Some row)
+pub return_sends : (p : Parts) (s t : Table) (b q : ℕ) (block : Option Block) (row other : Row) → sets_return block q ≡ true
+    → SaySameBut q row other → sends_in p t b block (Some other) ≡ sends_in p s b block (Some row)
 return_sends p s t b q None row other is h = absurd (false≢true is)
-return_sends p s t b q (Some (blocks.TransferToSubroutine c)) row other is h = call_sends p s t b c row other (subst (λ n. SaySameBut n row other) (sym (eqb-true c.parameter q is)) h)
+return_sends p s t b q (Some (blocks.TransferToSubroutine c)) row other is h =
+    call_sends p s t b c row other (subst (λ n. SaySameBut n row other) (sym (eqb-true c.parameter q is)) h)
 return_sends p s t b q (Some block) row other is h = absurd (false≢true is)
 
 -- what a TRANSFER in parameter mode sends
@@ -81,11 +93,13 @@ along_returns b row (c ∷ bs) = ap (λ es. move (c + 1) row ∷ es) (along_retu
 
 -- ONE ROW
 
-same_if : (stays : Bool) (state row : Row) (k : ℕ) (rows : List (Option Row)) → option_flatten (slice_get rows k) ≡ Some row → is_within state row ≡ stays → (if stays then Same else Less) ≡ Same → sent_at state k rows ≡ rows
+same_if : (stays : Bool) (state row : Row) (k : ℕ) (rows : List (Option Row)) → option_flatten (slice_get rows k) ≡ Some row
+    → is_within state row ≡ stays → (if stays then Same else Less) ≡ Same → sent_at state k rows ≡ rows
 same_if true state row k rows is within h = same_rows state row k rows is (rw within refl)
 same_if false state row k rows is within h = absurd (cc)
 
-same_in : (o : Option Row) (state : Row) (k : ℕ) (rows : List (Option Row)) → option_flatten (slice_get rows k) ≡ o → change_of state o ≡ Same → sent_at state k rows ≡ rows
+same_in : (o : Option Row) (state : Row) (k : ℕ) (rows : List (Option Row)) → option_flatten (slice_get rows k) ≡ o → change_of state o
+    ≡ Same → sent_at state k rows ≡ rows
 same_in None state k rows is h = absurd (cc)
 same_in (Some row) state k rows is h = same_if (is_within state row) state row k rows is refl h
 
@@ -99,9 +113,11 @@ full_in (Some None) row h = absurd (cc)
 full_in (Some (Some other)) row h = let same : other ≡ row = cc in ap (λ r. Some (Some r)) same
 
 -- a row that says then what was sent is what the state makes of it
-pub itself_is : (state : Row) (k : ℕ) (rows next : List (Option Row)) → k < length rows → next ≡ sent_at state k rows → option_flatten (slice_get next k) ≡ Some state → with_state state (option_flatten (slice_get rows k)) ≡ state
+pub itself_is : (state : Row) (k : ℕ) (rows next : List (Option Row)) → k < length rows → next ≡ sent_at state k rows
+    → option_flatten (slice_get next k) ≡ Some state → with_state state (option_flatten (slice_get rows k)) ≡ state
 itself_is state k rows next lt new same =
-    let both : Some (with_state state (option_flatten (slice_get rows k))) ≡ Some state = sym (at_place state k rows lt) ∙ ap (λ xs. option_flatten (slice_get xs k)) (sym new) ∙ same in
+    let both : Some (with_state state (option_flatten (slice_get rows k))) ≡ Some state = sym (at_place state k rows lt)
+    ∙ ap (λ xs. option_flatten (slice_get xs k)) (sym new) ∙ same in
     cc
 
 -- VERSIONS
@@ -113,7 +129,8 @@ read_or (x ∷ xs) zero d e lt = refl
 read_or (x ∷ xs) (suc k) d e lt = read_or xs k d e (omega (arith, lt))
 
 -- a version at a place, where the rows elsewhere are as they were
-pub are_set : (row : ℕ → Row) (versions : List ℕ) (rows next : List (Option Row)) (k v : ℕ) → k < length versions → AreOf row versions rows → ((i : ℕ) → k ≢ i → slice_get next i ≡ slice_get rows i) → (v ≢ 0 → slice_get next k ≡ Some (Some (row v))) → AreOf row (set versions k v) next
+pub are_set : (row : ℕ → Row) (versions : List ℕ) (rows next : List (Option Row)) (k v : ℕ) → k < length versions → AreOf row versions rows
+    → ((i : ℕ) → k ≢ i → slice_get next i ≡ slice_get rows i) → (v ≢ 0 → slice_get next k ≡ Some (Some (row v))) → AreOf row (set versions k v) next
 are_set row versions rows next k v lt are others own i has = ⊎_elim
     (λ (q : k ≡ i).
     let here : get_or (set versions k v) i 0 ≡ v = subst (λ n. get_or (set versions k v) n 0 ≡ v) q (get_or-set_same versions k v 0 lt) in
@@ -124,10 +141,13 @@ are_set row versions rows next k v lt are others own i has = ⊎_elim
     rw there (others i ne ∙ are i (λ (z : get_or versions i 0 ≡ 0). has (there ∙ z))))
     (cases_eq k i)
 
-are_without : (row : ℕ → Row) (versions : List ℕ) (rows : List (Option Row)) (state : Row) (k : ℕ) → k < length versions → AreOf row versions rows → AreOf row (set versions k 0) (sent_at state k rows)
-are_without row versions rows state k lt are = are_set row versions rows (sent_at state k rows) k 0 lt are (λ i ne. at_other state k i rows ne) (λ (z : ◌≢◌ {A = ℕ} 0 0). absurd (z refl))
+are_without : (row : ℕ → Row) (versions : List ℕ) (rows : List (Option Row)) (state : Row) (k : ℕ) → k < length versions
+    → AreOf row versions rows → AreOf row (set versions k 0) (sent_at state k rows)
+are_without row versions rows state k lt are =
+    are_set row versions rows (sent_at state k rows) k 0 lt are (λ i ne. at_other state k i rows ne) (λ (z : ◌≢◌ {A = ℕ} 0 0). absurd (z refl))
 
-are_sent : (row : ℕ → Row) (versions : List ℕ) (rows : List (Option Row)) (state : Row) (k : ℕ) (c : Change) → k < length versions → c ≡ change_of state (option_flatten (slice_get rows k)) → AreOf row versions rows → AreOf row (without_version c k versions) (sent_at state k rows)
+are_sent : (row : ℕ → Row) (versions : List ℕ) (rows : List (Option Row)) (state : Row) (k : ℕ) (c : Change) → k < length versions → c
+    ≡ change_of state (option_flatten (slice_get rows k)) → AreOf row versions rows → AreOf row (without_version c k versions) (sent_at state k rows)
 are_sent row versions rows state k Same lt is are = subst (AreOf row versions) (sym (same_at state k rows (sym is))) are
 are_sent row versions rows state k Less lt is are = are_without row versions rows state k lt are
 are_sent row versions rows state k More lt is are = are_without row versions rows state k lt are
@@ -157,7 +177,9 @@ most_without newest Less k versions h = most_set newest 0 k versions (omega arit
 most_without newest More k versions h = most_set newest 0 k versions (omega arith) h
 
 -- a row to which a state was sent has no version, if it has changed
-pub versions_sent : (newest : ℕ) (latest : Latest) (versions after : List ℕ) (rows next : List (Option Row)) (state : Row) (k : ℕ) (c : Change) → k < length versions → c ≡ change_of state (option_flatten (slice_get rows k)) → after ≡ without_version c k versions → next ≡ sent_at state k rows →
+pub versions_sent : (newest : ℕ) (latest : Latest) (versions after : List ℕ) (rows next : List (Option Row)) (state : Row) (k : ℕ)
+    (c : Change) → k < length versions → c ≡ change_of state (option_flatten (slice_get rows k)) → after ≡ without_version c k versions
+    → next ≡ sent_at state k rows →
     AreVersions newest latest versions rows → AreVersions newest latest after next
 versions_sent newest latest versions after rows next state k c lt is without new h = record {
   length = ap length without ∙ length_without c k versions ∙ h.length ∙ sym (ap length new ∙ length_sent state k rows);
@@ -172,7 +194,8 @@ zero_at zero i = refl
 zero_at (suc m) zero = refl
 zero_at (suc m) (suc i) = zero_at m i
 
-pub no_versions_are : (latest : Latest) (n : ℕ) (versions : List ℕ) (rows : List (Option Row)) → latest.like.version ≡ 0 → versions ≡ replicate n 0 → length versions ≡ length rows → AreVersions 0 latest versions rows
+pub no_versions_are : (latest : Latest) (n : ℕ) (versions : List ℕ) (rows : List (Option Row)) → latest.like.version ≡ 0 → versions
+    ≡ replicate n 0 → length versions ≡ length rows → AreVersions 0 latest versions rows
 no_versions_are latest n versions rows none is all = record {
   length = all;
   row = λ _. record { params = []; facilities = []; units = [] };
@@ -212,7 +235,8 @@ module _ (latest : Latest) (versions : List ℕ) (rows : List (Option Row)) (new
     within = omega arith;
   }
 
-  pub version_given : (k version next : ℕ) → option_flatten (slice_get rows k) ≡ Some state → IsGiven (get_or versions k 0) newest version next → HaveVersion version state next latest versions rows
+  pub version_given : (k version next : ℕ) → option_flatten (slice_get rows k) ≡ Some state
+      → IsGiven (get_or versions k 0) newest version next → HaveVersion version state next latest versions rows
   version_given k version next is (inl own) = rw (own.0, own.1) (record { all = h; own = there_says k is; within = h.most k })
   version_given k version next is (inr new) = rw (new.0, new.1) next_given
 
@@ -220,7 +244,8 @@ module _ (latest : Latest) (versions : List ℕ) (rows : List (Option Row)) (new
 
 module _ (q : ℕ) (state : Row) (version newest : ℕ) where
   -- what was found out last is known of a row of the same version
-  pub sharing_known : (latest : Latest) (like : Like) (versions : List ℕ) (rows : List (Option Row)) → (like.version ≡ 0) ⊎ ((version ≢ 0) × (version ≡ latest.version) × (q ≡ latest.parameter) × (like ≡ latest.like)) →
+  pub sharing_known : (latest : Latest) (like : Like) (versions : List ℕ) (rows : List (Option Row)) → (like.version ≡ 0)
+      ⊎ ((version ≢ 0) × (version ≡ latest.version) × (q ≡ latest.parameter) × (like ≡ latest.like)) →
       HaveVersion version state newest latest versions rows → IsSharing q state version newest like versions rows
   sharing_known latest like versions rows (inl none) h = record {
     length = h.all.length;
@@ -251,7 +276,8 @@ module _ (q : ℕ) (state : Row) (version newest : ℕ) where
       }
 
   -- and what is known then was found out last
-  pub sharing_ends : (latest : Latest) (like : Like) (versions : List ℕ) (rows : List (Option Row)) → (latest.like.version ≡ 0) ⊎ ((version ≢ 0) × (latest.version ≡ version) × (latest.parameter ≡ q) × (latest.like ≡ like)) →
+  pub sharing_ends : (latest : Latest) (like : Like) (versions : List ℕ) (rows : List (Option Row)) → (latest.like.version ≡ 0)
+      ⊎ ((version ≢ 0) × (latest.version ≡ version) × (latest.parameter ≡ q) × (latest.like ≡ like)) →
       IsSharing q state version newest like versions rows → AreVersions newest latest versions rows
   sharing_ends latest like versions rows (inl none) h = record { length = h.length; row = h.row; are = h.are; most = h.most; found = λ has. absurd (has none) }
   sharing_ends latest like versions rows (inr (has, same, by, is)) h = record {
@@ -268,12 +294,17 @@ module _ (q : ℕ) (state : Row) (version newest : ℕ) where
         };
   }
 
-  most_if : (itself : Bool) (versions : List ℕ) (k : ℕ) → version ≤ newest → AreAtMost newest versions → AreAtMost newest (if itself then set versions k version else versions)
+  most_if : (itself : Bool) (versions : List ℕ) (k : ℕ) → version ≤ newest → AreAtMost newest versions
+      → AreAtMost newest (if itself then set versions k version else versions)
   most_if true versions k le h = most_set newest version k versions le h
   most_if false versions k le h = h
 
-  shared_if : (row : ℕ → Row) (itself : Bool) (versions : List ℕ) (rows : List (Option Row)) (k : ℕ) → k < length versions → AreOf row versions rows → (version ≢ 0 → row version ≡ state) → (itself ≡ true → option_flatten (slice_get rows k) ≡ Some state) → AreOf row (if itself then set versions k version else versions) rows
-  shared_if row true versions rows k lt are own same = are_set row versions rows rows k version lt are (λ i ne. refl) (λ has. full_in (slice_get rows k) state (same refl) ∙ ap (λ r. Some (Some r)) (sym (own has)))
+  shared_if : (row : ℕ → Row) (itself : Bool) (versions : List ℕ) (rows : List (Option Row)) (k : ℕ) → k < length versions
+      → AreOf row versions rows → (version ≢ 0 → row version ≡ state) → (itself ≡ true → option_flatten (slice_get rows k) ≡ Some state)
+      → AreOf row (if itself then set versions k version else versions) rows
+  shared_if row true versions rows k lt are own same =
+      are_set row versions rows rows k version lt are (λ i ne. refl)
+      (λ has. full_in (slice_get rows k) state (same refl) ∙ ap (λ r. Some (Some r)) (sym (own has)))
   shared_if row false versions rows k lt are own same = are
 
   length_if : (itself : Bool) (versions : List ℕ) (k : ℕ) → length (if itself then set versions k version else versions) ≡ length versions
@@ -284,14 +315,18 @@ module _ (q : ℕ) (state : Row) (version newest : ℕ) where
   like_in like o row is h = subst (λ x. IsSomeAnd x (Makes q state like)) is h
 
   -- a state was sent to a row of which it wasn't known what becomes of it
-  pub sharing_first : (old like : Like) (versions given after : List ℕ) (rows next : List (Option Row)) (k : ℕ) (c : Change) (itself : Bool) → k < length versions →
-      c ≡ change_of state (option_flatten (slice_get rows k)) → next ≡ sent_at state k rows → given ≡ without_version c k versions → after ≡ (if itself then set given k version else given) → (itself ≡ true → option_flatten (slice_get next k) ≡ Some state) →
-      (like.version ≢ 0 → (like.version ≡ get_or versions k 0) × IsSomeAnd (option_flatten (slice_get rows k)) (Makes q state like)) → IsSharing q state version newest old versions rows → IsSharing q state version newest like after next
+  pub sharing_first : (old like : Like) (versions given after : List ℕ) (rows next : List (Option Row)) (k : ℕ) (c : Change)
+      (itself : Bool) → k < length versions →
+      c ≡ change_of state (option_flatten (slice_get rows k)) → next ≡ sent_at state k rows → given ≡ without_version c k versions → after
+      ≡ (if itself then set given k version else given) → (itself ≡ true → option_flatten (slice_get next k) ≡ Some state) →
+      (like.version ≢ 0 → (like.version ≡ get_or versions k 0) × IsSomeAnd (option_flatten (slice_get rows k)) (Makes q state like))
+      → IsSharing q state version newest old versions rows → IsSharing q state version newest like after next
   sharing_first old like versions given after rows next k c itself lt is new without shared same known h =
       let within : k < length given = omega (arith, lt, ap length without, length_without c k versions) in
       let are : AreOf h.row given next = rw (without, new) (are_sent h.row versions rows state k c lt is h.are) in
       record {
-        length = ap length shared ∙ length_if itself given k ∙ ap length without ∙ length_without c k versions ∙ h.length ∙ sym (ap length new ∙ length_sent state k rows);
+        length = ap length shared ∙ length_if itself given k ∙ ap length without ∙ length_without c k versions ∙ h.length
+            ∙ sym (ap length new ∙ length_sent state k rows);
         row = h.row;
         are = rw shared (shared_if h.row itself given next k within are h.own same);
         own = h.own;
@@ -308,7 +343,8 @@ module _ (q : ℕ) (state : Row) (version newest : ℕ) where
             (cases_eq like.version 0);
       }
 
-  module _ (like : Like) (versions : List ℕ) (rows : List (Option Row)) (k : ℕ) (lt : k < length versions) (is : get_or versions k 0 ≡ like.version) (known : like.version ≢ 0) (h : IsSharing q state version newest like versions rows) where
+  module _ (like : Like) (versions : List ℕ) (rows : List (Option Row)) (k : ℕ) (lt : k < length versions)
+      (is : get_or versions k 0 ≡ like.version) (known : like.version ≢ 0) (h : IsSharing q state version newest like versions rows) where
     pub like_there : slice_get rows k ≡ Some (Some (h.row like.version))
     like_there = subst (λ n. slice_get rows k ≡ Some (Some (h.row n))) is (h.are k (λ (z : get_or versions k 0 ≡ 0). known (sym is ∙ z)))
 
@@ -329,14 +365,18 @@ module _ (q : ℕ) (state : Row) (version newest : ℕ) where
     pub like_set : like.change ≢ Same → slice_set rows k (Some state) ≡ sent_at state k rows
     like_set ne = ap (λ r. slice_set rows k (Some r)) (sym ((h.makes known).itself (like_less ne))) ∙ set_is state k rows (Some (h.row like.version)) like_there
 
-    pub like_shared : (after : List ℕ) (next : List (Option Row)) → like.change ≢ Same → next ≡ slice_set rows k (Some state) → after ≡ set versions k version → IsSharing q state version newest like after next
+    pub like_shared : (after : List ℕ) (next : List (Option Row)) → like.change ≢ Same → next ≡ slice_set rows k (Some state) → after
+        ≡ set versions k version → IsSharing q state version newest like after next
     like_shared after next ne new shared =
         let sent_there : next ≡ sent_at state k rows = new ∙ like_set ne in
-        let itself : option_flatten (slice_get (sent_at state k rows) k) ≡ Some state = at_place state k rows (omega (arith, lt, h.length)) ∙ ap (λ o. Some (with_state state (option_flatten o))) like_there ∙ ap Some ((h.makes known).itself (like_less ne)) in
+        let itself : option_flatten (slice_get (sent_at state k rows) k) ≡ Some state = at_place state k rows (omega (arith, lt, h.length))
+        ∙ ap (λ o. Some (with_state state (option_flatten o))) like_there ∙ ap Some ((h.makes known).itself (like_less ne)) in
         record {
           length = ap length shared ∙ length-set versions k version ∙ h.length ∙ sym (ap length sent_there ∙ length_sent state k rows);
           row = h.row;
-          are = rw (shared, sent_there) (are_set h.row versions rows (sent_at state k rows) k version lt h.are (λ i other. at_other state k i rows other) (λ has. full_in (slice_get (sent_at state k rows) k) state itself ∙ ap (λ r. Some (Some r)) (sym (h.own has))));
+          are = rw (shared, sent_there)
+              (are_set h.row versions rows (sent_at state k rows) k version lt h.are (λ i other. at_other state k i rows other)
+              (λ has. full_in (slice_get (sent_at state k rows) k) state itself ∙ ap (λ r. Some (Some r)) (sym (h.own has))));
           own = h.own;
           makes = h.makes;
           most = rw shared (most_set newest version k versions h.within h.most);
@@ -345,26 +385,34 @@ module _ (q : ℕ) (state : Row) (version newest : ℕ) where
         }
 
     -- and a block that sets the parameter in which alone its row has changed sends what it sent
-    quiet_sends : (p : Parts) (chains : List (Option Row)) → like.change ≢ Same → like.alone ≡ true → sets_return (block_at p.blocks (suc k)) q ≡ true → (b : ℕ) → sends p (as_table p (rows_of (sent_at state k rows) chains)) b ≡ sends p (as_table p (rows_of rows chains)) b
-    quiet_sends p chains ne alone sets zero = sends_same p (as_table p (rows_of rows chains)) (as_table p (rows_of (sent_at state k rows) chains)) zero refl (λ u there. refl)
+    quiet_sends : (p : Parts) (chains : List (Option Row)) → like.change ≢ Same → like.alone ≡ true
+        → sets_return (block_at p.blocks (suc k)) q ≡ true → (b : ℕ) → sends p (as_table p (rows_of (sent_at state k rows) chains)) b
+        ≡ sends p (as_table p (rows_of rows chains)) b
+    quiet_sends p chains ne alone sets zero =
+        sends_same p (as_table p (rows_of rows chains)) (as_table p (rows_of (sent_at state k rows) chains)) zero refl (λ u there. refl)
     quiet_sends p chains ne alone sets (suc j) = ⊎_elim
         (λ (same : k ≡ j).
         let s = as_table p (rows_of rows chains) in
         let t = as_table p (rows_of (sent_at state k rows) chains) in
         let was : s (targets.Block (suc k)) ≡ Some (h.row like.version) = ap option_flatten like_there in
-        let is_then : t (targets.Block (suc k)) ≡ Some state = at_place state k rows (omega (arith, lt, h.length)) ∙ ap (λ o. Some (with_state state (option_flatten o))) like_there ∙ ap Some ((h.makes known).itself (like_less ne)) in
+        let is_then : t (targets.Block (suc k)) ≡ Some state = at_place state k rows (omega (arith, lt, h.length))
+        ∙ ap (λ o. Some (with_state state (option_flatten o))) like_there ∙ ap Some ((h.makes known).itself (like_less ne)) in
         let here : sends p t (suc k) ≡ sends p s (suc k) =
         ap (sends_in p t (suc k) (block_at p.blocks (suc k))) is_then
         ∙ return_sends p s t (suc k) q (block_at p.blocks (suc k)) (h.row like.version) state sets ((h.makes known).alone alone)
         ∙ ap (sends_in p s (suc k) (block_at p.blocks (suc k))) (sym was) in
         subst (λ n. sends p t (suc n) ≡ sends p s (suc n)) same here)
-        (λ (other : k ≢ j). sends_same p (as_table p (rows_of rows chains)) (as_table p (rows_of (sent_at state k rows) chains)) (suc j) (ap option_flatten (at_other state k j rows other)) (λ u there. refl))
+        (λ (other : k ≢ j). sends_same p (as_table p (rows_of rows chains)) (as_table p (rows_of (sent_at state k rows) chains)) (suc j)
+        (ap option_flatten (at_other state k j rows other)) (λ u there. refl))
         (cases_eq k j)
 
-    pub quiet_follows : (p : Parts) (marks : List Bool) (next : List (Option Row)) → like.change ≢ Same → like.alone ≡ true → sets_return (slice_get p.blocks k) q ≡ true → next ≡ slice_set rows k (Some state) → (chains : List (Option Row)) → MarksFollow p marks marks (as_table p (rows_of rows chains)) (as_table p (rows_of next chains))
+    pub quiet_follows : (p : Parts) (marks : List Bool) (next : List (Option Row)) → like.change ≢ Same → like.alone ≡ true
+        → sets_return (slice_get p.blocks k) q ≡ true → next ≡ slice_set rows k (Some state) → (chains : List (Option Row))
+        → MarksFollow p marks marks (as_table p (rows_of rows chains)) (as_table p (rows_of next chains))
     quiet_follows p marks next ne alone sets new chains =
         let sent_there : next ≡ sent_at state k rows = new ∙ like_set ne in
-        rw sent_there (follow_grown p marks marks (as_table p (rows_of rows chains)) (as_table p (rows_of (sent_at state k rows) chains)) (grown_itself marks) (λ b unmarked. quiet_sends p chains ne alone sets b))
+        rw sent_there (follow_grown p marks marks (as_table p (rows_of rows chains)) (as_table p (rows_of (sent_at state k rows) chains))
+        (grown_itself marks) (λ b unmarked. quiet_sends p chains ne alone sets b))
 
 -- A VISIT
 
@@ -372,7 +420,8 @@ next_number : (b : ℕ) → b + 1 ≡ suc b
 next_number b = omega arith
 
 pub behind_sent : (p : Parts) (state : Row) (bs : List ℕ) (rows chains : List (Option Row)) →
-    (all_sent p (moves_behind state bs) (rows_of rows chains) ≡ rows_of (sent_behind state bs rows) chains) × (changes_of p (moves_behind state bs) (rows_of rows chains) ≡ change_behind state bs rows)
+    (all_sent p (moves_behind state bs) (rows_of rows chains) ≡ rows_of (sent_behind state bs rows) chains)
+    × (changes_of p (moves_behind state bs) (rows_of rows chains) ≡ change_behind state bs rows)
 behind_sent p state [] rows chains = (refl, refl)
 behind_sent p state (b ∷ bs) rows chains = rw (next_number b) (
   (behind_sent p state bs (sent_at state b rows) chains).0,
@@ -406,14 +455,16 @@ goes_to p b (blocks.TransferByFraction f) row n ns is table = refl
 goes_to p b block row n ns is table = absurd (cc)
 
 -- and one that is known to go on behind these sends its row as it is behind them
-pub goes_behind : (p : Parts) (b : ℕ) (block : Block) (row : Row) (behind : Behind) → numbers_behind behind ≡ goes_on_to b block → SendsBehind p b block row (blocks_behind behind)
+pub goes_behind : (p : Parts) (b : ℕ) (block : Block) (row : Row) (behind : Behind) → numbers_behind behind ≡ goes_on_to b block
+    → SendsBehind p b block row (blocks_behind behind)
 goes_behind p b block row behind is table =
     goes_to p b block row (behind.first + 1) (map (λ b. b + 1) (option_to_list behind.second)) (sym is) table
     ∙ ap (λ ns. if rules_hold p block row then moves_to row ns else []) (sym is)
     ∙ ap (λ (es : List FlowEdge). if rules_hold p block row then es else []) (moves_are row (blocks_behind behind))
 
 -- what a block sends that sends its row as it is
-module _ (p : Parts) (b : ℕ) (block : Block) (row : Row) (bs : List ℕ) (rows chains : List (Option Row)) (is : block_at p.blocks b ≡ Some block) (has : as_table p (rows_of rows chains) (targets.Block b) ≡ Some row) (behind : SendsBehind p b block row bs) where
+module _ (p : Parts) (b : ℕ) (block : Block) (row : Row) (bs : List ℕ) (rows chains : List (Option Row))
+    (is : block_at p.blocks b ≡ Some block) (has : as_table p (rows_of rows chains) (targets.Block b) ≡ Some row) (behind : SendsBehind p b block row bs) where
   abbrev held : Table
   held = as_table p (rows_of rows chains)
 
@@ -427,7 +478,8 @@ module _ (p : Parts) (b : ℕ) (block : Block) (row : Row) (bs : List ℕ) (rows
       let both = behind_sent p row bs rows chains in
       (ap (λ es. all_sent p es (rows_of rows chains)) sent_then ∙ both.0, ap (λ es. changes_of p es (rows_of rows chains)) sent_then ∙ both.1)
 
-  pub passed_none : rules_hold p block row ≡ false → (visit_block p b (rows_of rows chains) ≡ rows_of rows chains) × (change_at p b (rows_of rows chains) ≡ Same)
+  pub passed_none : rules_hold p block row ≡ false → (visit_block p b (rows_of rows chains) ≡ rows_of rows chains)
+      × (change_at p b (rows_of rows chains) ≡ Same)
   passed_none holds =
       let sent_then = sent_if false holds in
       (ap (λ es. all_sent p es (rows_of rows chains)) sent_then, ap (λ es. changes_of p es (rows_of rows chains)) sent_then)
@@ -441,11 +493,16 @@ entered_within p (suc k) enters = omega (arith, block_within p k enters)
 behind_within : (p : Parts) (row : Row) (bs : List ℕ) → All (λ (e : FlowEdge). MayEnter p e.target) (moves_behind row bs) → All (λ b. b < length p.blocks) bs
 behind_within p row [] h = All-nil (λ b. b < length p.blocks)
 behind_within p row (b ∷ bs) h =
-    let enters : MayEnter p (targets.Block (suc b)) = subst (λ n. MayEnter p (targets.Block n)) (next_number b) (All-head (λ (e : FlowEdge). MayEnter p e.target) (move (b + 1) row) (moves_behind row bs) h) in
-    All-cons (λ n. n < length p.blocks) b bs (block_within p b enters) (behind_within p row bs (All-tail (λ (e : FlowEdge). MayEnter p e.target) (move (b + 1) row) (moves_behind row bs) h))
+    let enters : MayEnter p (targets.Block (suc b)) =
+    subst (λ n. MayEnter p (targets.Block n)) (next_number b)
+    (All-head (λ (e : FlowEdge). MayEnter p e.target) (move (b + 1) row) (moves_behind row bs) h) in
+    All-cons (λ n. n < length p.blocks) b bs (block_within p b enters)
+    (behind_within p row bs (All-tail (λ (e : FlowEdge). MayEnter p e.target) (move (b + 1) row) (moves_behind row bs) h))
 
-pub passed_within : (p : Parts) (b : ℕ) (block : Block) (row : Row) (bs : List ℕ) (rows chains : List (Option Row)) → block_at p.blocks b ≡ Some block → as_table p (rows_of rows chains) (targets.Block b) ≡ Some row → SendsBehind p b block row bs →
-    All (λ (e : FlowEdge). MayEnter p e.target) (sends p (as_table p (rows_of rows chains)) b) → rules_hold p block row ≡ true → All (λ c. c < length p.blocks) bs
+pub passed_within : (p : Parts) (b : ℕ) (block : Block) (row : Row) (bs : List ℕ) (rows chains : List (Option Row)) → block_at p.blocks b
+    ≡ Some block → as_table p (rows_of rows chains) (targets.Block b) ≡ Some row → SendsBehind p b block row bs →
+    All (λ (e : FlowEdge). MayEnter p e.target) (sends p (as_table p (rows_of rows chains)) b) → rules_hold p block row ≡ true
+    → All (λ c. c < length p.blocks) bs
 passed_within p b block row bs rows chains is has behind enters holds =
     behind_within p row bs (subst (All (λ (e : FlowEdge). MayEnter p e.target)) (sent_if p b block row bs rows chains is has behind true holds) enters)
 
@@ -460,7 +517,8 @@ module _ (p : Parts) (rows chains : List (Option Row)) where
   return_sent k q row is has = sym (sends_are p table (suc k) (blocks.TransferByParameter q) row is (ap option_flatten has)) ∙ return_is p (suc k) q row table
 
   -- of two TRANSFERs by one parameter in rows of one version both are idle, if one is
-  pub idle_like : (newest : ℕ) (latest : Latest) (versions : List ℕ) (k j q : ℕ) → AreVersions newest latest versions rows → IsReturnAt p.blocks q k → IsReturnAt p.blocks q j → IsOneVersion versions k j → IsIdleAt p table (suc j) → IsIdleAt p table (k + 1)
+  pub idle_like : (newest : ℕ) (latest : Latest) (versions : List ℕ) (k j q : ℕ) → AreVersions newest latest versions rows
+      → IsReturnAt p.blocks q k → IsReturnAt p.blocks q j → IsOneVersion versions k j → IsIdleAt p table (suc j) → IsIdleAt p table (k + 1)
   idle_like newest latest versions k j q h is other one idle =
       let row = h.row (get_or versions k 0) in
       let here : slice_get rows k ≡ Some (Some row) = h.are k one.0 in

@@ -1,5 +1,6 @@
 -- A join that changes a row makes it smaller.
-use Rattle.std.proofs.Common.{◌≡◌, ◌≢◌, ⊎_elim, ℕ, zero, suc, ◌+◌, ◌<◌, ◌≤◌, List, [], ◌∷◌, ◌++◌, Option, Some, None, Bool, true, false, ◌==◌, if◌then◌else◌, min, nat_le, refl, ap, subst, ◌∙◌, arith}
+use Rattle.std.proofs.Common.{◌≡◌, ◌≢◌, ⊎_elim, ℕ, zero, suc, ◌+◌, ◌<◌, ◌≤◌, List, [], ◌∷◌, ◌++◌, Option, Some, None, Bool, true, false, ◌==◌}
+use Rattle.std.proofs.Common.{if◌then◌else◌, min, nat_le, refl, ap, subst, ◌∙◌, arith}
 use Rattle.std.specs.List.{list_all}
 use Rattle.std.proofs.lemmas.Bool.{cases_eq, eq-eqb, ne_eqb, and_cases, or_right, or_left, leb-false, true≢false}
 use Rattle.gw_rules.specs.Entries.{lists}
@@ -34,7 +35,8 @@ missing_le : (n : ℕ) (bs ds : List ℕ) → ((b : ℕ) → lists bs b ≡ true
 missing_le zero bs ds h = omega arith
 missing_le (suc n) bs ds h = omega (arith, missing_le n bs ds h, one_le (lists bs n) (lists ds n) (h n))
 
-missing_lt : (n c : ℕ) (bs ds : List ℕ) → ((b : ℕ) → lists bs b ≡ true → lists ds b ≡ true) → c < n → lists bs c ≡ false → lists ds c ≡ true → missing n ds < missing n bs
+missing_lt : (n c : ℕ) (bs ds : List ℕ) → ((b : ℕ) → lists bs b ≡ true → lists ds b ≡ true) → c < n → lists bs c ≡ false → lists ds c
+    ≡ true → missing n ds < missing n bs
 missing_lt zero c bs ds h lt e g = absurd (omega arith)
 missing_lt (suc n) c bs ds h lt e g =
     ⊎_elim
@@ -80,7 +82,8 @@ kind_lt n (Some (Ret bs)) (Some (Ret cs)) h e =
     let p = not_among cs bs e in
     omega (arith, missing_lt n p.0 bs (union_of bs cs) (in_left bs cs) (h p.0 p.1) p.2 (in_right bs cs p.0 p.1))
 
-kept_sum : {X : Type 0} (h : ℕ → ℕ) (p : ℕ) (value : Option X) (es : List (ℕ × X)) → (value ≡ None → h p ≡ 0) → keys_sum h (one p value ++ es) ≡ h p + keys_sum h es
+kept_sum : {X : Type 0} (h : ℕ → ℕ) (p : ℕ) (value : Option X) (es : List (ℕ × X)) → (value ≡ None → h p ≡ 0)
+    → keys_sum h (one p value ++ es) ≡ h p + keys_sum h es
 kept_sum h p None es z = omega (arith, z refl)
 kept_sum h p (Some v) es z = refl
 
@@ -92,7 +95,8 @@ sum_le : {X : Type 0} (h g : ℕ → ℕ) (es : List (ℕ × X)) → ((p : ℕ) 
 sum_le h g [] le = omega arith
 sum_le h g (e ∷ es) le = omega (arith, le e.0, sum_le h g es le)
 
-sum_lt : {X : Type 0} (h g : ℕ → ℕ) (t : ℕ → Bool) (es : List (ℕ × X)) → ((p : ℕ) → h p ≤ g p) → ((p : ℕ) → t p ≡ false → h p < g p) → list_all (λ e. t e.0) es ≡ false → keys_sum h es < keys_sum g es
+sum_lt : {X : Type 0} (h g : ℕ → ℕ) (t : ℕ → Bool) (es : List (ℕ × X)) → ((p : ℕ) → h p ≤ g p) → ((p : ℕ) → t p ≡ false → h p < g p)
+    → list_all (λ e. t e.0) es ≡ false → keys_sum h es < keys_sum g es
 sum_lt h g t [] le lt is = absurd (true≢false is)
 sum_lt h g t (e ∷ es) le lt is =
     ⊎_elim
@@ -114,20 +118,27 @@ same_sum : {X : Type 0} (h g : ℕ → ℕ) (es : List (ℕ × X)) → ((p : ℕ
 same_sum h g [] same = refl
 same_sum h g (e ∷ es) same = omega (arith, same e.0, same_sum h g es same)
 
-params_sum : (n : ℕ) (row state : Row) → keys_sum (λ p. kind_size n (kind_of (join_rows row state) p)) (join_rows row state).params ≡ keys_sum (λ p. kind_size n (joined_kind (kind_of row p) (kind_of state p))) row.params
+params_sum : (n : ℕ) (row state : Row) → keys_sum (λ p. kind_size n (kind_of (join_rows row state) p)) (join_rows row state).params
+    ≡ keys_sum (λ p. kind_size n (joined_kind (kind_of row p) (kind_of state p))) row.params
 params_sum n row state =
-    same_sum (λ p. kind_size n (kind_of (join_rows row state) p)) (λ p. kind_size n (joined_kind (kind_of row p) (kind_of state p))) (join_rows row state).params (λ p. ap (kind_size n) (kind_joined row state p))
-    ∙ keep_sum (λ p. kind_size n (joined_kind (kind_of row p) (kind_of state p))) (λ p. joined_kind (kind_of row p) (kind_of state p)) row.params (λ p. none_size n (joined_kind (kind_of row p) (kind_of state p)))
+    same_sum (λ p. kind_size n (kind_of (join_rows row state) p)) (λ p. kind_size n (joined_kind (kind_of row p) (kind_of state p)))
+    (join_rows row state).params (λ p. ap (kind_size n) (kind_joined row state p))
+    ∙ keep_sum (λ p. kind_size n (joined_kind (kind_of row p) (kind_of state p))) (λ p. joined_kind (kind_of row p) (kind_of state p))
+    row.params (λ p. none_size n (joined_kind (kind_of row p) (kind_of state p)))
 
-units_sum : (row state : Row) → keys_sum (λ e. units_of (join_rows row state) e) (join_rows row state).units ≡ keys_sum (λ e. min (units_of row e) (units_of state e)) row.units
+units_sum : (row state : Row) → keys_sum (λ e. units_of (join_rows row state) e) (join_rows row state).units
+    ≡ keys_sum (λ e. min (units_of row e) (units_of state e)) row.units
 units_sum row state =
     same_sum (λ e. units_of (join_rows row state) e) (λ e. min (units_of row e) (units_of state e)) (join_rows row state).units (units_joined row state)
-    ∙ keep_sum (λ e. min (units_of row e) (units_of state e)) (λ e. nonzero (min (units_of row e) (units_of state e))) row.units (λ e. none_zero (min (units_of row e) (units_of state e)))
+    ∙ keep_sum (λ e. min (units_of row e) (units_of state e)) (λ e. nonzero (min (units_of row e) (units_of state e))) row.units
+    (λ e. none_zero (min (units_of row e) (units_of state e)))
 
 -- a row that knows more than a state becomes smaller
-pub join_smaller : (n : ℕ) (row state : Row) → ((p : ℕ) → BlocksBelow n (kind_of state p)) → is_within state row ≡ false → row_size n (join_rows row state) < row_size n row
+pub join_smaller : (n : ℕ) (row state : Row) → ((p : ℕ) → BlocksBelow n (kind_of state p)) → is_within state row ≡ false
+    → row_size n (join_rows row state) < row_size n row
 join_smaller n row state below h =
-    let ple = sum_le (λ p. kind_size n (joined_kind (kind_of row p) (kind_of state p))) (λ p. kind_size n (kind_of row p)) row.params (λ p. kind_le n (kind_of row p) (kind_of state p)) in
+    let ple = sum_le (λ p. kind_size n (joined_kind (kind_of row p) (kind_of state p))) (λ p. kind_size n (kind_of row p)) row.params
+    (λ p. kind_le n (kind_of row p) (kind_of state p)) in
     let ule = sum_le (λ e. min (units_of row e) (units_of state e)) (λ e. units_of row e) row.units (λ e. omega arith) in
     ⊎_elim
     (λ (q : params_fit state.params row.params ≡ false).
@@ -136,7 +147,9 @@ join_smaller n row state below h =
       params_sum n row state,
       units_sum row state,
       ule,
-      sum_lt (λ p. kind_size n (joined_kind (kind_of row p) (kind_of state p))) (λ p. kind_size n (kind_of row p)) (λ p. kind_fits (kind_of state p) (kind_of row p)) row.params (λ p. kind_le n (kind_of row p) (kind_of state p)) (λ p. kind_lt n (kind_of row p) (kind_of state p) (below p)) q,
+      sum_lt (λ p. kind_size n (joined_kind (kind_of row p) (kind_of state p))) (λ p. kind_size n (kind_of row p))
+          (λ p. kind_fits (kind_of state p) (kind_of row p)) row.params (λ p. kind_le n (kind_of row p) (kind_of state p))
+          (λ p. kind_lt n (kind_of row p) (kind_of state p) (below p)) q,
     ))
     (λ (q : units_fit state.units row.units ≡ false).
     omega (
@@ -144,6 +157,7 @@ join_smaller n row state below h =
       params_sum n row state,
       units_sum row state,
       ple,
-      sum_lt (λ e. min (units_of row e) (units_of state e)) (λ e. units_of row e) (λ e. nat_le (units_of row e) (units_of state e)) row.units (λ e. omega arith) (λ e z. omega (arith, leb-false (units_of row e) (units_of state e) z)) q,
+      sum_lt (λ e. min (units_of row e) (units_of state e)) (λ e. units_of row e) (λ e. nat_le (units_of row e) (units_of state e))
+          row.units (λ e. omega arith) (λ e z. omega (arith, leb-false (units_of row e) (units_of state e) z)) q,
     ))
     (and_cases (params_fit state.params row.params) (units_fit state.units row.units) h)

@@ -1,5 +1,6 @@
 -- Rows whose amounts fall by as much in each round.
-use Rattle.std.proofs.Common.{◌≡◌, ⊎_elim, ℕ, zero, suc, ◌+◌, ◌-◌, ◌*◌, ◌≤◌, ◌<◌, ◌≢◌, List, [], ◌∷◌, ◌++◌, drop, length, Option, Some, None, refl, sym, ap, ap₂, subst, ◌∙◌, arith, suc-mul, zero-mul, mul-le-mul_right}
+use Rattle.std.proofs.Common.{◌≡◌, ⊎_elim, ℕ, zero, suc, ◌+◌, ◌-◌, ◌*◌, ◌≤◌, ◌<◌, ◌≢◌, List, [], ◌∷◌, ◌++◌, drop, length, Option, Some, None, refl}
+use Rattle.std.proofs.Common.{sym, ap, ap₂, subst, ◌∙◌, arith, suc-mul, zero-mul, mul-le-mul_right}
 use Rattle.std.specs.Prelude.{All, IfSome, unwrap_or}
 use Rattle.std.proofs.lemmas.Bool.{cases_lt}
 use Rattle.std.proofs.lemmas.List.{length-map}
@@ -21,7 +22,8 @@ amount_left None n m = omega arith
 amount_left (Some k) n m = nonzero_is (k - n * (k - m))
 
 pub units_are_after : (n : ℕ) (row next : Row) (e : ℕ) → units_of (row_after n row next) e ≡ amount_after n row next e
-units_are_after n row next e = ap (λ o. unwrap_or o 0) (entry-keep (λ x. nonzero (amount_after n row next x)) row.units e) ∙ amount_left (entry row.units e) n (units_of next e)
+units_are_after n row next e = ap (λ o. unwrap_or o 0) (entry-keep (λ x. nonzero (amount_after n row next x)) row.units e)
+    ∙ amount_left (entry row.units e) n (units_of next e)
 
 pub after_ordered : (n : ℕ) (row next : Row) → IsOrdered row → IsOrdered (row_after n row next)
 after_ordered n row next h = record {
@@ -53,12 +55,21 @@ after_declines n row next h some = record {
   facilities = λ t. refl;
   ordered = λ t. after_ordered t row next h;
   falls = λ t e le. omega (arith, units_are_after t row next e, units_are_after (suc t) row next e, suc-mul t (fall_of row next e));
-  slows = λ t e le. omega (arith, units_are_after t row next e, units_are_after (suc t) row next e, units_are_after (suc (suc t)) row next e, suc-mul t (fall_of row next e), suc-mul (suc t) (fall_of row next e), row_room (suc (suc t)) n row next e le some);
+  slows = λ t e le. omega (
+    arith,
+    units_are_after t row next e,
+    units_are_after (suc t) row next e,
+    units_are_after (suc (suc t)) row next e,
+    suc-mul t (fall_of row next e),
+    suc-mul (suc t) (fall_of row next e),
+    row_room (suc (suc t)) n row next e le some,
+  );
 }
 
 -- after no fall a row is what it was
 pub after_none : (row next : Row) → IsOrdered row → row_after 0 row next ≡ row
-after_none row next h = row_same (row_after 0 row next) row (after_ordered 0 row next h) h refl refl (λ e. omega (arith, units_are_after 0 row next e, zero-mul (fall_of row next e)))
+after_none row next h = row_same (row_after 0 row next) row (after_ordered 0 row next h) h refl refl
+    (λ e. omega (arith, units_are_after 0 row next e, zero-mul (fall_of row next e)))
 
 -- SEQUENCES
 
@@ -95,7 +106,8 @@ straight n a d g h t le = omega (arith, height_below n a d g h t le, height_abov
 -- ONE PLACE
 
 -- a row that falls on has after each round what its course says
-row_falls_on : (n : ℕ) (row next second last : Row) (g : Course) → 0 < n → IsOrdered row → Declines n g → FallsOn n row next second last → IsLower (Some next) (Some row) → g 0 ≡ next → g 1 ≡ second → g n ≡ last → (t : ℕ) → suc t ≤ n → row_after (suc t) row next ≡ g t
+row_falls_on : (n : ℕ) (row next second last : Row) (g : Course) → 0 < n → IsOrdered row → Declines n g → FallsOn n row next second last
+    → IsLower (Some next) (Some row) → g 0 ≡ next → g 1 ≡ second → g n ≡ last → (t : ℕ) → suc t ≤ n → row_after (suc t) row next ≡ g t
 row_falls_on n row next second last g some up h falls lower is0 is1 isn t le =
     row_same (row_after (suc t) row next) (g t) (after_ordered (suc t) row next up) (h.ordered t)
     (sym falls.params ∙ ap (λ (r : Row). r.params) (sym is0) ∙ sym (h.params t))
@@ -114,7 +126,9 @@ row_falls_on n row next second last g some up h falls lower is0 is1 isn t le =
     } in
     omega (arith, units_are_after (suc t) row next e, straight n (units_of row e) d amounts line t (omega (arith, le))))
 
-pub place_falls_on : (n : ℕ) (row next second last : Option Row) (g : Option Course) → 0 < n → IfSome row IsOrdered → PlaceDeclines n g → PlaceFallsOn n row next second last → IsLower next row → place_at 0 g ≡ next → place_at 1 g ≡ second → place_at n g ≡ last → (t : ℕ) → suc t ≤ n → place_after (suc t) row next ≡ place_at t g
+pub place_falls_on : (n : ℕ) (row next second last : Option Row) (g : Option Course) → 0 < n → IfSome row IsOrdered → PlaceDeclines n g
+    → PlaceFallsOn n row next second last → IsLower next row → place_at 0 g ≡ next → place_at 1 g ≡ second → place_at n g ≡ last → (t : ℕ)
+    → suc t ≤ n → place_after (suc t) row next ≡ place_at t g
 place_falls_on n None None second last None some up h falls lower is0 is1 isn t le = refl
 place_falls_on n None None second last (Some g) some up h falls lower is0 is1 isn t le = absurd (cc)
 place_falls_on n None (Some next) second last g some up h falls lower is0 is1 isn t le = absurd falls
@@ -129,7 +143,8 @@ place_falls_on n (Some row) (Some next) (Some second) (Some last) (Some g) some 
     ap Some (row_falls_on n row next second last g some up h falls lower at0 at1 atn t le)
 
 -- after one fall a row is the next
-pub place_once : (n : ℕ) (row next second last : Option Row) → IfSome row IsOrdered → IfSome next IsOrdered → PlaceFallsOn n row next second last → IsLower next row → place_after 1 row next ≡ next
+pub place_once : (n : ℕ) (row next second last : Option Row) → IfSome row IsOrdered → IfSome next IsOrdered
+    → PlaceFallsOn n row next second last → IsLower next row → place_after 1 row next ≡ next
 place_once n None None second last up also falls lower = refl
 place_once n None (Some next) second last up also falls lower = absurd falls
 place_once n (Some row) None second last up also falls lower = absurd falls
@@ -202,10 +217,12 @@ Ordered row = IfSome row IsOrdered
 
 place_declines : (n : ℕ) (row next : Option Row) → Ordered row → PlaceLeaves n row next → PlaceDeclines n (place_course row next)
 place_declines n (Some row) (Some next) up some = after_declines n row next up some
-place_declines n (Some row) None up some = record { params = λ t. refl; facilities = λ t. refl; ordered = λ t. up; falls = λ t e le. omega arith; slows = λ t e le. omega arith }
+place_declines n (Some row) None up some =
+    record { params = λ t. refl; facilities = λ t. refl; ordered = λ t. up; falls = λ t e le. omega arith; slows = λ t e le. omega arith }
 place_declines n None next up some = tt
 
-pub places_decline : (n : ℕ) (rows nexts : List (Option Row)) → All Ordered rows → ((i : ℕ) → PlaceLeaves n (row_in rows i) (row_in nexts i)) → All (PlaceDeclines n) (courses_after rows nexts)
+pub places_decline : (n : ℕ) (rows nexts : List (Option Row)) → All Ordered rows
+    → ((i : ℕ) → PlaceLeaves n (row_in rows i) (row_in nexts i)) → All (PlaceDeclines n) (courses_after rows nexts)
 places_decline n [] nexts up some = All-nil (PlaceDeclines n)
 places_decline n (row ∷ rows) [] up some =
     All-cons (PlaceDeclines n) (place_course row None) (courses_after rows [])
@@ -248,22 +265,28 @@ ordered_in (row ∷ rows) zero h = All-head Ordered row rows h
 ordered_in (row ∷ rows) (suc i) h = ordered_in rows i (All-tail Ordered row rows h)
 
 pub places_not : (rows nexts : List (Option Row)) → All Ordered rows → places_after 0 rows nexts ≡ rows
-places_not rows nexts up = places_same (places_after 0 rows nexts) rows (length-after 0 rows nexts) (λ i. row_in_after 0 rows nexts i ∙ place_not (row_in rows i) (row_in nexts i) (ordered_in rows i up))
+places_not rows nexts up =
+    places_same (places_after 0 rows nexts) rows (length-after 0 rows nexts)
+    (λ i. row_in_after 0 rows nexts i ∙ place_not (row_in rows i) (row_in nexts i) (ordered_in rows i up))
 
 -- after one fall the rows are the next
-pub places_once : (n : ℕ) (rows nexts second last : List (Option Row)) → length rows ≡ length nexts → All Ordered rows → All Ordered nexts → PlacesFallOn n rows nexts second last → ((i : ℕ) → IsLower (row_in nexts i) (row_in rows i)) → places_after 1 rows nexts ≡ nexts
+pub places_once : (n : ℕ) (rows nexts second last : List (Option Row)) → length rows ≡ length nexts → All Ordered rows → All Ordered nexts
+    → PlacesFallOn n rows nexts second last → ((i : ℕ) → IsLower (row_in nexts i) (row_in rows i)) → places_after 1 rows nexts ≡ nexts
 places_once n rows nexts second last same up also falls lower =
     places_same (places_after 1 rows nexts) nexts (length-after 1 rows nexts ∙ same)
-    (λ i. row_in_after 1 rows nexts i ∙ place_once n (row_in rows i) (row_in nexts i) (row_in second i) (row_in last i) (ordered_in rows i up) (ordered_in nexts i also) (falls i) (lower i))
+    (λ i. row_in_after 1 rows nexts i
+    ∙ place_once n (row_in rows i) (row_in nexts i) (row_in second i) (row_in last i) (ordered_in rows i up) (ordered_in nexts i also) (falls i) (lower i))
 
 said_at : (t : ℕ) (gs : List (Option Course)) (rows : List (Option Row)) → places_at t gs ≡ rows → (i : ℕ) → place_at t (course_in gs i) ≡ row_in rows i
 said_at t gs rows is i = sym (looked_up t gs i) ∙ ap (λ xs. row_in xs i) is
 
 -- after each round the rows are what their courses say
-pub places_fall_on : (n t : ℕ) (rows nexts second last : List (Option Row)) (gs : List (Option Course)) → 0 < n → suc t ≤ n → length rows ≡ length gs → All Ordered rows → All (PlaceDeclines n) gs → PlacesFallOn n rows nexts second last → ((i : ℕ) → IsLower (row_in nexts i) (row_in rows i)) →
+pub places_fall_on : (n t : ℕ) (rows nexts second last : List (Option Row)) (gs : List (Option Course)) → 0 < n → suc t ≤ n → length rows
+    ≡ length gs → All Ordered rows → All (PlaceDeclines n) gs → PlacesFallOn n rows nexts second last → ((i : ℕ) → IsLower (row_in nexts i) (row_in rows i)) →
     places_at 0 gs ≡ nexts → places_at 1 gs ≡ second → places_at n gs ≡ last → places_after (suc t) rows nexts ≡ places_at t gs
 places_fall_on n t rows nexts second last gs some le same up h falls lower is0 is1 isn =
     places_same (places_after (suc t) rows nexts) (places_at t gs) (length-after (suc t) rows nexts ∙ same ∙ sym (length-map gs (place_at t)))
     (λ i. row_in_after (suc t) rows nexts i
-    ∙ place_falls_on n (row_in rows i) (row_in nexts i) (row_in second i) (row_in last i) (course_in gs i) some (ordered_in rows i up) (declines_in n gs i h) (falls i) (lower i) (said_at 0 gs nexts is0 i) (said_at 1 gs second is1 i) (said_at n gs last isn i) t le
+    ∙ place_falls_on n (row_in rows i) (row_in nexts i) (row_in second i) (row_in last i) (course_in gs i) some (ordered_in rows i up)
+    (declines_in n gs i h) (falls i) (lower i) (said_at 0 gs nexts is0 i) (said_at 1 gs second is1 i) (said_at n gs last isn i) t le
     ∙ sym (looked_up t gs i))

@@ -1,5 +1,6 @@
 -- An object with the assembler's table that has a spelling is the one that is written.
-use Rattle.std.proofs.Common.{◌≡◌, ◌⊎◌, ⊎_elim, inl, inr, ℕ, zero, suc, ◌<◌, ◌≤◌, ◌+◌, List, [], ◌∷◌, ◌++◌, map, length, option_map, Option, Some, None, Bool, true, false, if◌then◌else◌, refl, sym, ap, ap₂, subst, ◌∙◌, arith}
+use Rattle.std.proofs.Common.{◌≡◌, ◌⊎◌, ⊎_elim, inl, inr, ℕ, zero, suc, ◌<◌, ◌≤◌, ◌+◌, List, [], ◌∷◌, ◌++◌, map, length, option_map, Option, Some}
+use Rattle.std.proofs.Common.{None, Bool, true, false, if◌then◌else◌, refl, sym, ap, ap₂, subst, ◌∙◌, arith}
 use Rattle.std.specs.Prelude.{◌≢◌, All, IfSome, nat_eq}
 use Rattle.std.specs.List.{list_any}
 use Rattle.std.specs.Cmp.Lexicographic.{pointwise, bytes_decides}
@@ -103,7 +104,8 @@ units_made a b m n e f = rw (e, f) refl
 param_made : (a b : ℕ) (k l : TableKind) → a ≡ b → k ≡ l → ◌≡◌ {A = TableParameter} (record { number = a; kind = k }) (record { number = b; kind = l })
 param_made a b k l e f = rw (e, f) refl
 
-state_made : (ps qs : List TableParameter) (fs gs : List ℕ) (us vs : List Units) → ps ≡ qs → fs ≡ gs → us ≡ vs → ◌≡◌ {A = TableState} (record { parameters = ps; facilities = fs; units = us }) (record { parameters = qs; facilities = gs; units = vs })
+state_made : (ps qs : List TableParameter) (fs gs : List ℕ) (us vs : List Units) → ps ≡ qs → fs ≡ gs → us ≡ vs
+    → ◌≡◌ {A = TableState} (record { parameters = ps; facilities = fs; units = us }) (record { parameters = qs; facilities = gs; units = vs })
 state_made ps qs fs gs us vs e f g = rw (e, f, g) refl
 
 -- return rows are their sets
@@ -165,7 +167,8 @@ module _ (rs : List ReturnRow) (apart : AreApart (sets_of rs)) (fit : All Return
       let tail : params_said rs ps ≡ params_said rs qs = cc in
       let kind = kind_is p.kind q.kind (All-head (λ (x : TableParameter). NamesRow (length rs) x.kind) q qs names) said in
       let e : p ≡ q = param_made p.number q.number p.kind q.kind number kind in
-      ap₂ (λ (x : TableParameter) (xs : List TableParameter). x ∷ xs) e (params_are ps qs (All-tail (λ (x : TableParameter). NamesRow (length rs) x.kind) q qs names) tail)
+      ap₂ (λ (x : TableParameter) (xs : List TableParameter). x ∷ xs) e
+      (params_are ps qs (All-tail (λ (x : TableParameter). NamesRow (length rs) x.kind) q qs names) tail)
 
   state_is : (s t : TableState) → NamesRows (length rs) t → row_meaning rs s ≡ row_meaning rs t → s ≡ t
   state_is s t names h =
@@ -195,7 +198,8 @@ module _ (rs : List ReturnRow) (apart : AreApart (sets_of rs)) (fit : All Return
 
 -- WHAT IS WRITTEN
 
-table_made : (p : Parts) (rs rt : List ReturnRow) (ss st cs ct : List (Option TableState)) → rs ≡ rt → ss ≡ st → cs ≡ ct → with_table p rs ss cs ≡ with_table p rt st ct
+table_made : (p : Parts) (rs rt : List ReturnRow) (ss st cs ct : List (Option TableState)) → rs ≡ rt → ss ≡ st → cs ≡ ct
+    → with_table p rs ss cs ≡ with_table p rt st ct
 table_made p rs rt ss st cs ct e f g = rw (e, f, g) refl
 
 module _ (p : Parts) (w : Written) (t : IsTableOf p w) (q : Parts) (differs : DiffersInTable p q) (has : HasAssemblersTable p q) (spelled : HasSpelling q) where
@@ -224,7 +228,8 @@ module _ (p : Parts) (w : Written) (t : IsTableOf p w) (q : Parts) (differs : Di
       states_are w.returns apart each_fits q.chain_states w.chain_states t.says.chain_numbers (here ∙ sym t.says.chains)
 
   pub written_is_spelled : HasSpelling (with_written p w)
-  written_is_spelled = subst HasSpelling (differs ∙ table_made p q.returns w.returns q.states w.states q.chain_states w.chain_states returns_same states_same chain_states_same) spelled
+  written_is_spelled = subst HasSpelling
+      (differs ∙ table_made p q.returns w.returns q.states w.states q.chain_states w.chain_states returns_same states_same chain_states_same) spelled
 
 -- a written table that an object can't have is too large
 pub too_large_written : (p : Parts) (w : Written) (fault : Fault) → IsTableOf p w → ¬ HasSpelling (with_written p w) → fault ≡ past_limit → IsTooLarge p fault
@@ -290,13 +295,18 @@ own_params sets others (p ∷ ps) among =
 
 amounts_fit : (us : List Units) → All HeldFits us → AmountsFit (units_seen us)
 amounts_fit [] fit = All-nil (λ (e : ℕ × ℕ). e.1 ≤ greatest_units)
-amounts_fit (u ∷ us) fit = All-cons (λ (e : ℕ × ℕ). e.1 ≤ greatest_units) (u.entity, u.number) (units_seen us) (All-head HeldFits u us fit).most (amounts_fit us (All-tail HeldFits u us fit))
+amounts_fit (u ∷ us) fit =
+    All-cons (λ (e : ℕ × ℕ). e.1 ≤ greatest_units) (u.entity, u.number) (units_seen us) (All-head HeldFits u us fit).most
+    (amounts_fit us (All-tail HeldFits u us fit))
 
-option_fits : (rs : List ReturnRow) (sets others : List (List ℕ)) (s : Option TableState) → IfSome s StateFits → AreAmong (with_row sets (option_map (row_meaning rs) s)) others → IfSome (option_map (row_meaning rs) s) (RowFits others)
+option_fits : (rs : List ReturnRow) (sets others : List (List ℕ)) (s : Option TableState) → IfSome s StateFits
+    → AreAmong (with_row sets (option_map (row_meaning rs) s)) others → IfSome (option_map (row_meaning rs) s) (RowFits others)
 option_fits rs sets others None fit among = tt
-option_fits rs sets others (Some s) fit among = record { params = own_params sets others (params_said rs s.parameters) among; units = amounts_fit s.units fit.each_unit }
+option_fits rs sets others (Some s) fit among =
+    record { params = own_params sets others (params_said rs s.parameters) among; units = amounts_fit s.units fit.each_unit }
 
-states_fit : (rs : List ReturnRow) (sets others : List (List ℕ)) (ss : List (Option TableState)) → All (λ s. IfSome s StateFits) ss → AreAmong (with_rows sets (seen_rows rs ss)) others → RowsFit others (seen_rows rs ss)
+states_fit : (rs : List ReturnRow) (sets others : List (List ℕ)) (ss : List (Option TableState)) → All (λ s. IfSome s StateFits) ss
+    → AreAmong (with_rows sets (seen_rows rs ss)) others → RowsFit others (seen_rows rs ss)
 states_fit rs sets others [] fit among = All-nil (λ r. IfSome r (RowFits others))
 states_fit rs sets others (s ∷ ss) fit among =
     let row = option_map (row_meaning rs) s in
@@ -327,6 +337,7 @@ too_large_rows p rows fault settled not is = record {
 }
 
 -- what stops the writing of the assembler's table is no fault of flow
-pub stopped : (p : Parts) (rows : TableRows) (stop : Stop) (fault : Fault) → AreSettled p rows → StopsUnless (CanBeWritten rows) stop → (stop ≡ stops.Memory → fault ≡ out_of_memory) → (stop ≡ stops.Limit → fault ≡ past_limit) → IsNoFlowFault p fault
+pub stopped : (p : Parts) (rows : TableRows) (stop : Stop) (fault : Fault) → AreSettled p rows → StopsUnless (CanBeWritten rows) stop
+    → (stop ≡ stops.Memory → fault ≡ out_of_memory) → (stop ≡ stops.Limit → fault ≡ past_limit) → IsNoFlowFault p fault
 stopped p rows stop fault settled (inl h) memory limit = inl (memory h)
 stopped p rows stop fault settled (inr h) memory limit = inr (too_large_rows p rows fault settled h.1 (limit h.0))

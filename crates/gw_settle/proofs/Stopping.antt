@@ -1,5 +1,6 @@
 -- What is written stops past a limit only where it can't be written.
-use Rattle.std.proofs.Common.{◌≡◌, ◌⊎◌, inl, inr, ℕ, zero, suc, ◌<◌, ◌≤◌, ◌+◌, List, [], ◌∷◌, ◌++◌, length, take, get_or, Option, Some, None, Bool, true, false, if◌then◌else◌, refl, sym, ap, subst, ◌∙◌, arith}
+use Rattle.std.proofs.Common.{◌≡◌, ◌⊎◌, inl, inr, ℕ, zero, suc, ◌<◌, ◌≤◌, ◌+◌, List, [], ◌∷◌, ◌++◌, length, take, get_or, Option, Some, None, Bool}
+use Rattle.std.proofs.Common.{true, false, if◌then◌else◌, refl, sym, ap, subst, ◌∙◌, arith}
 use Rattle.std.specs.Prelude.{All}
 use Rattle.std.proofs.lemmas.List.Elements.{All-head, All-tail}
 use Rattle.gw_object.specs.Limits.{most_return_rows, greatest_units}
@@ -48,7 +49,8 @@ at_most : (a b c : ℕ) → a ≤ b → b ≤ c → a ≤ c
 at_most a b c h g = omega (arith, h, g)
 
 -- so where all are few, those on the way are
-pub few_params : (sets so_far : List (List ℕ)) (ps : List KnownParam) (i : ℕ) (d : KnownParam) → i < length ps → so_far ≡ with_params sets (params_known (take i ps)) → AreFew (with_params sets (params_known ps)) → AreFew (with_kind so_far (kind_known (get_or ps i d).kind))
+pub few_params : (sets so_far : List (List ℕ)) (ps : List KnownParam) (i : ℕ) (d : KnownParam) → i < length ps → so_far
+    ≡ with_params sets (params_known (take i ps)) → AreFew (with_params sets (params_known ps)) → AreFew (with_kind so_far (kind_known (get_or ps i d).kind))
 few_params sets so_far [] i d lt is few = absurd (omega (arith, lt))
 few_params sets so_far (p ∷ ps) zero d lt is few =
     let more = more_params (with_kind sets (kind_known p.kind)) (params_known ps) in
@@ -58,7 +60,8 @@ few_params sets so_far (p ∷ ps) (suc i) d lt is few =
     let below : i < length ps = omega (arith, lt) in
     few_params (with_kind sets (kind_known p.kind)) so_far ps i d below is few
 
-pub few_rows : (sets so_far : List (List ℕ)) (rows : List (Option Row)) (i : ℕ) (d : Option Row) → i < length rows → so_far ≡ with_rows sets (take i rows) → AreFew (with_rows sets rows) → AreFew (with_row so_far (get_or rows i d))
+pub few_rows : (sets so_far : List (List ℕ)) (rows : List (Option Row)) (i : ℕ) (d : Option Row) → i < length rows → so_far
+    ≡ with_rows sets (take i rows) → AreFew (with_rows sets rows) → AreFew (with_row so_far (get_or rows i d))
 few_rows sets so_far [] i d lt is few = absurd (omega (arith, lt))
 few_rows sets so_far (row ∷ rows) zero d lt is few =
     let more = more_rows (with_row sets row) rows in
@@ -73,7 +76,8 @@ few_blocks sets rows few = at_most (length sets) (length (with_rows sets rows)) 
 
 -- ONE OF SEVERAL
 
-pub param_at : (sets : List (List ℕ)) (ps : List KnownParam) (i : ℕ) (d : KnownParam) → i < length ps → HasParams sets (params_known ps) → HasKind sets (kind_known (get_or ps i d).kind)
+pub param_at : (sets : List (List ℕ)) (ps : List KnownParam) (i : ℕ) (d : KnownParam) → i < length ps → HasParams sets (params_known ps)
+    → HasKind sets (kind_known (get_or ps i d).kind)
 param_at sets [] i d lt h = absurd (omega (arith, lt))
 param_at sets (p ∷ ps) zero d lt h = All-head (λ (e : ℕ × ParamKind). HasKind sets e.1) (p.number, kind_known p.kind) (params_known ps) h
 param_at sets (p ∷ ps) (suc i) d lt h =
@@ -89,22 +93,26 @@ amount_at (u ∷ us) (suc i) d lt h =
 
 -- WHERE A LOOP STOPS
 
-pub stops_params : (sets so_far : List (List ℕ)) (ps : List KnownParam) (i : ℕ) (x : KnownParam) (stop : Stop) → i < length ps → x ≡ get_or ps i x → so_far ≡ with_params sets (params_known (take i ps)) →
+pub stops_params : (sets so_far : List (List ℕ)) (ps : List KnownParam) (i : ℕ) (x : KnownParam) (stop : Stop) → i < length ps → x
+    ≡ get_or ps i x → so_far ≡ with_params sets (params_known (take i ps)) →
     StopsUnless (AreFew (with_kind so_far (kind_known x.kind))) stop → StopsUnless (AreFew (with_params sets (params_known ps))) stop
 stops_params sets so_far ps i x stop lt is so h =
     stops_weaker (AreFew (with_params sets (params_known ps))) (AreFew (with_kind so_far (kind_known x.kind))) stop
     (λ few. subst (λ (y : KnownParam). AreFew (with_kind so_far (kind_known y.kind))) (sym is) (few_params sets so_far ps i x lt so few)) h
 
-pub stops_rows : (sets so_far : List (List ℕ)) (rows : List (Option Row)) (i : ℕ) (x : Option Row) (stop : Stop) → i < length rows → x ≡ get_or rows i x → so_far ≡ with_rows sets (take i rows) →
+pub stops_rows : (sets so_far : List (List ℕ)) (rows : List (Option Row)) (i : ℕ) (x : Option Row) (stop : Stop) → i < length rows → x
+    ≡ get_or rows i x → so_far ≡ with_rows sets (take i rows) →
     StopsUnless (AreFew (with_row so_far x)) stop → StopsUnless (AreFew (with_rows sets rows)) stop
 stops_rows sets so_far rows i x stop lt is so h =
     stops_weaker (AreFew (with_rows sets rows)) (AreFew (with_row so_far x)) stop
     (λ few. subst (λ (y : Option Row). AreFew (with_row so_far y)) (sym is) (few_rows sets so_far rows i x lt so few)) h
 
-pub stops_param : (sets : List (List ℕ)) (ps : List KnownParam) (i : ℕ) (x : KnownParam) (stop : Stop) → i < length ps → x ≡ get_or ps i x → StopsUnless (HasKind sets (kind_known x.kind)) stop → StopsUnless (HasParams sets (params_known ps)) stop
+pub stops_param : (sets : List (List ℕ)) (ps : List KnownParam) (i : ℕ) (x : KnownParam) (stop : Stop) → i < length ps → x ≡ get_or ps i x
+    → StopsUnless (HasKind sets (kind_known x.kind)) stop → StopsUnless (HasParams sets (params_known ps)) stop
 stops_param sets ps i x stop lt is h =
     stops_weaker (HasParams sets (params_known ps)) (HasKind sets (kind_known x.kind)) stop
     (λ all. subst (λ (y : KnownParam). HasKind sets (kind_known y.kind)) (sym is) (param_at sets ps i x lt all)) h
 
-pub stops_amount : (us : List Amount) (i : ℕ) (d : Amount) → i < length us → greatest_units < (get_or us i d).number → StopsUnless (AmountsFit (amounts_of us)) stops.Limit
+pub stops_amount : (us : List Amount) (i : ℕ) (d : Amount) → i < length us → greatest_units < (get_or us i d).number
+    → StopsUnless (AmountsFit (amounts_of us)) stops.Limit
 stops_amount us i d lt above = inr (refl, λ all. let fits = amount_at us i d lt all in omega (arith, above, fits))

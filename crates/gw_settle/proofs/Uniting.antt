@@ -1,5 +1,6 @@
 -- Two lists that ascend, united in one pass.
-use Rattle.std.proofs.Common.{◌≡◌, ◌≢◌, ℕ, ◌<◌, ◌≤◌, ◌+◌, nat_lt, List, [], ◌∷◌, ◌++◌, drop, take, zero, suc, get_or, length, Bool, true, false, cond, not, refl, sym, ap, subst, append_assoc, ◌∙◌, arith, add-one, drop-cons}
+use Rattle.std.proofs.Common.{◌≡◌, ◌≢◌, ℕ, ◌<◌, ◌≤◌, ◌+◌, nat_lt, List, [], ◌∷◌, ◌++◌, drop, take, zero, suc, get_or, length, Bool, true, false, cond}
+use Rattle.std.proofs.Common.{not, refl, sym, ap, subst, append_assoc, ◌∙◌, arith, add-one, drop-cons}
 use Rattle.std.specs.Prelude.{All, AllPairs, filter}
 use Rattle.std.proofs.lemmas.Bool.{lt-ltb, le-ltb, ltb-true, ltb-false}
 use Rattle.std.proofs.lemmas.List.Elements.{All-nil, All-cons, All-head, All-tail, All-weaker}
@@ -24,7 +25,9 @@ Ascend ns = AllPairs (λ a b. a < b) ns
 
 -- where the first is at least the bound, each is
 pub all_above : (bound first : ℕ) (later : List ℕ) → Ascend (first ∷ later) → bound ≤ first → All (λ n. bound ≤ n) (first ∷ later)
-all_above bound first later up le = All-cons (λ n. bound ≤ n) first later le (All-weaker (λ n. first < n) (λ n. bound ≤ n) (λ n lt. omega (arith, lt, le)) later (AllPairs-head (λ a b. a < b) first later up))
+all_above bound first later up le =
+    All-cons (λ n. bound ≤ n) first later le
+    (All-weaker (λ n. first < n) (λ n. bound ≤ n) (λ n lt. omega (arith, lt, le)) later (AllPairs-head (λ a b. a < b) first later up))
 
 -- ELEMENTS
 
@@ -35,7 +38,8 @@ drop_at xs i d lt = rw add-one (drop-cons xs i d lt)
 -- BELOW A BOUND
 
 -- one more that is below it
-pub under_more : (bound i : ℕ) (ns : List ℕ) (d : ℕ) → i < length ns → get_or ns i d < bound → All (λ n. n < bound) (take i ns) → All (λ n. n < bound) (take (suc i) ns)
+pub under_more : (bound i : ℕ) (ns : List ℕ) (d : ℕ) → i < length ns → get_or ns i d < bound → All (λ n. n < bound) (take i ns)
+    → All (λ n. n < bound) (take (suc i) ns)
 under_more bound i [] d within lt h = absurd (omega (arith, within))
 under_more bound zero (n ∷ ns) d within lt h = All-cons (λ n. n < bound) n [] lt (All-nil (λ n. n < bound))
 under_more bound (suc i) (n ∷ ns) d within lt h =
@@ -57,7 +61,8 @@ none_below : (bound : ℕ) (rest : List ℕ) → All (λ n. bound ≤ n) rest �
 none_below bound rest h = filter-none (λ n. nat_lt n bound) rest (All-weaker (λ n. bound ≤ n) (λ n. nat_lt n bound ≡ false) (λ n le. le-ltb n bound le) rest h)
 
 all_left : (bound : ℕ) (rest : List ℕ) → All (λ n. bound ≤ n) rest → filter (λ n. not (nat_lt n bound)) rest ≡ rest
-all_left bound rest h = filter-all (λ n. not (nat_lt n bound)) rest (All-weaker (λ n. bound ≤ n) (λ n. not (nat_lt n bound) ≡ true) (λ n le. ap not (le-ltb n bound le)) rest h)
+all_left bound rest h = filter-all (λ n. not (nat_lt n bound)) rest
+    (All-weaker (λ n. bound ≤ n) (λ n. not (nat_lt n bound) ≡ true) (λ n le. ap not (le-ltb n bound le)) rest h)
 
 -- where the numbers before a place are below a bound, and the others aren't, these are those below it, and the others
 pub record IsSplit (bound i : ℕ) (ns : List ℕ) : Type 0 where
@@ -82,17 +87,22 @@ above_first bound first later e up =
     let over : All (λ n. bound < n) later = subst (λ b. All (λ n. b < n) later) e (AllPairs-head (λ a b. a < b) first later up) in
     rw (le-ltb bound first (omega (arith, e))) (sym (same_above bound later over))
 
-pub above_all : (bound first : ℕ) (later : List ℕ) → first ≢ bound → bound ≤ first → Ascend (first ∷ later) → first ∷ later ≡ filter (λ n. nat_lt bound n) (first ∷ later)
+pub above_all : (bound first : ℕ) (later : List ℕ) → first ≢ bound → bound ≤ first → Ascend (first ∷ later) → first ∷ later
+    ≡ filter (λ n. nat_lt bound n) (first ∷ later)
 above_all bound first later ne le up =
     let lt : bound < first = omega (arith, le, ne) in
-    sym (same_above bound (first ∷ later) (All-cons (λ n. bound < n) first later lt (All-weaker (λ n. first < n) (λ n. bound < n) (λ n more. omega (arith, more, lt)) later (AllPairs-head (λ a b. a < b) first later up))))
+    sym (same_above bound (first ∷ later)
+    (All-cons (λ n. bound < n) first later lt
+    (All-weaker (λ n. first < n) (λ n. bound < n) (λ n more. omega (arith, more, lt)) later (AllPairs-head (λ a b. a < b) first later up))))
 
 -- WHAT IS LEFT
 
 pub left_ascends : (bound : ℕ) (ns : List ℕ) → Ascend ns → Ascend (filter (λ n. not (nat_lt n bound)) ns)
 left_ascends bound ns up = AllPairs-filter (λ a b. a < b) (λ n. not (nat_lt n bound)) ns up
 
-above_if : (b : Bool) (m n : ℕ) (ns : List ℕ) → nat_lt n m ≡ b → filter (λ x. nat_lt m x) ns ≡ filter (λ x. nat_lt m x) (filter (λ x. not (nat_lt x m)) ns) → filter (λ x. nat_lt m x) (n ∷ ns) ≡ filter (λ x. nat_lt m x) (cond (not b) (n ∷ filter (λ x. not (nat_lt x m)) ns) (filter (λ x. not (nat_lt x m)) ns))
+above_if : (b : Bool) (m n : ℕ) (ns : List ℕ) → nat_lt n m ≡ b → filter (λ x. nat_lt m x) ns
+    ≡ filter (λ x. nat_lt m x) (filter (λ x. not (nat_lt x m)) ns) → filter (λ x. nat_lt m x) (n ∷ ns)
+    ≡ filter (λ x. nat_lt m x) (cond (not b) (n ∷ filter (λ x. not (nat_lt x m)) ns) (filter (λ x. not (nat_lt x m)) ns))
 above_if true m n ns is h = rw (le-ltb m n (let lt = ltb n m is in omega (arith, lt))) h
   where
     ltb : (x y : ℕ) → nat_lt x y ≡ true → x < y
@@ -116,14 +126,16 @@ left_above bound (n ∷ ns) = by_test (nat_lt n bound) n bound (filter (λ n. no
 -- WHAT IS COMMON
 
 -- what two lists have in common at the front is in front of both
-pub common_first : (k : ℕ) (ns ms : List ℕ) → Ascend ns → Ascend ms → take k ns ≡ take k ms → k ≤ length ns → k ≤ length ms → take k ns ++ union_of (drop k ns) (drop k ms) ≡ union_of ns ms
+pub common_first : (k : ℕ) (ns ms : List ℕ) → Ascend ns → Ascend ms → take k ns ≡ take k ms → k ≤ length ns → k ≤ length ms → take k ns
+    ++ union_of (drop k ns) (drop k ms) ≡ union_of ns ms
 common_first zero ns ms up vp e le me = refl
 common_first (suc k) [] ms up vp e le me = absurd (omega (arith, le))
 common_first (suc k) (n ∷ ns) [] up vp e le me = absurd (omega (arith, me))
 common_first (suc k) (n ∷ ns) (m ∷ ms) up vp e le me =
     let same : n ≡ m = ap (λ xs. get_or xs 0 0) e in
     let over : All (λ x. m ≤ x) (n ∷ ns) = all_above m n ns up (omega (arith, same)) in
-    let later = common_first k ns ms (AllPairs-tail (λ a b. a < b) n ns up) (AllPairs-tail (λ a b. a < b) m ms vp) (ap (λ xs. drop 1 xs) e) (omega (arith, le)) (omega (arith, me)) in
+    let later = common_first k ns ms (AllPairs-tail (λ a b. a < b) n ns up) (AllPairs-tail (λ a b. a < b) m ms vp) (ap (λ xs. drop 1 xs) e)
+    (omega (arith, le)) (omega (arith, me)) in
     rw (none_below m (n ∷ ns) over, sym (above_first m n ns same up), same) (ap (λ xs. m ∷ xs) later)
 
 -- THE UNION SO FAR
@@ -132,8 +144,10 @@ pub record United (old numbers others all rest : List ℕ) (left : List ℕ) : T
   pub same : all ++ union_of rest left ≡ old ++ union_of numbers others
   pub ascends : Ascend rest
 
-pub united_more : (old numbers others all rest : List ℕ) (m : ℕ) (left : List ℕ) → United old numbers others all rest (m ∷ left) → United old numbers others ((all ++ filter (λ n. nat_lt n m) rest) ++ m ∷ []) (filter (λ n. nat_lt m n) rest) left
+pub united_more : (old numbers others all rest : List ℕ) (m : ℕ) (left : List ℕ) → United old numbers others all rest (m ∷ left)
+    → United old numbers others ((all ++ filter (λ n. nat_lt n m) rest) ++ m ∷ []) (filter (λ n. nat_lt m n) rest) left
 united_more old numbers others all rest m left h = record {
-  same = append_assoc (all ++ filter (λ n. nat_lt n m) rest) (m ∷ []) (union_of (filter (λ n. nat_lt m n) rest) left) ∙ append_assoc all (filter (λ n. nat_lt n m) rest) (m ∷ union_of (filter (λ n. nat_lt m n) rest) left) ∙ h.same;
+  same = append_assoc (all ++ filter (λ n. nat_lt n m) rest) (m ∷ []) (union_of (filter (λ n. nat_lt m n) rest) left)
+      ∙ append_assoc all (filter (λ n. nat_lt n m) rest) (m ∷ union_of (filter (λ n. nat_lt m n) rest) left) ∙ h.same;
   ascends = AllPairs-filter (λ a b. a < b) (λ n. nat_lt m n) rest h.ascends;
 }

@@ -13,7 +13,8 @@ use Rattle.gw_settle.specs.declared.table.Change.{Change}
 use Rattle.gw_settle.specs.declared.passing.Latest.{Latest}
 use Rattle.gw_settle.specs.declared.passing.Like.{Like}
 use Rattle.gw_settle.specs.declared.passing.Sent.{Sent}
-use Rattle.gw_settle.specs.Rounds.{TableRows, rows_of, with_blocks, as_table, sent_at, send_edge, all_sent, members_in, members_from, sends_in, visit_block, round, change_of, changes_of, change_at, change_in, AreReached}
+use Rattle.gw_settle.specs.Rounds.{TableRows, rows_of, with_blocks, as_table, sent_at, send_edge, all_sent, members_in, members_from, sends_in}
+use Rattle.gw_settle.specs.Rounds.{visit_block, round, change_of, changes_of, change_at, change_in, AreReached}
 use Rattle.gw_settle.specs.Keeps.{IsWell, HasShape, AreSound}
 use Rattle.gw_settle.specs.Marks.{with_mark, MarksSuffice, MarksFollow}
 use Rattle.gw_settle.specs.Versions.{AreVersions, HaveVersion, IsSharing, Makes, sent_behind, change_behind}
@@ -113,11 +114,13 @@ IsOfVersion sent draft = HaveVersion sent.version sent.row.now draft.newest draf
 
 -- what a row that is sent makes of the rows of one version isn't known, or was found out last
 abbrev pub IsLikeKnown : Sent → Latest → Like → Type 0
-IsLikeKnown sent latest like = (like.version ≡ 0) ⊎ ((sent.version ≢ 0) × (sent.version ≡ latest.version) × (sent.parameter ≡ latest.parameter) × (like ≡ latest.like))
+IsLikeKnown sent latest like = (like.version ≡ 0)
+    ⊎ ((sent.version ≢ 0) × (sent.version ≡ latest.version) × (sent.parameter ≡ latest.parameter) × (like ≡ latest.like))
 
 -- nothing was found out, or it is what a row that was sent makes of the rows of one version
 abbrev pub IsLatestOf : Sent → Like → Latest → Type 0
-IsLatestOf sent like latest = (latest.like.version ≡ 0) ⊎ ((sent.version ≢ 0) × (latest.version ≡ sent.version) × (latest.parameter ≡ sent.parameter) × (latest.like ≡ like))
+IsLatestOf sent like latest = (latest.like.version ≡ 0)
+    ⊎ ((sent.version ≢ 0) × (latest.version ≡ sent.version) × (latest.parameter ≡ sent.parameter) × (latest.like ≡ like))
 
 -- while a row is sent, the rows of one version say the same, and it is known what it makes of them
 abbrev pub AreShared : Sent → Like → Draft → Type 0

@@ -86,7 +86,8 @@ kind_with kind other = joined_kind (Some (kind_known kind)) (option_map kind_vie
 
 -- parameters become others, with what one holds by a row and by a state
 abbrev pub AddsJoined : KnownParam → Row → List KnownParam → List KnownParam → Type 0
-AddsJoined param state old new = params_known new ≡ params_known old ++ one param.number (joined_kind (Some (kind_known param.kind)) (kind_of state param.number))
+AddsJoined param state old new = params_known new ≡ params_known old
+    ++ one param.number (joined_kind (Some (kind_known param.kind)) (kind_of state param.number))
 
 -- the parameters of a row that a state has too
 abbrev pub params_with : List KnownParam → Row → List (ℕ × ParamKind)

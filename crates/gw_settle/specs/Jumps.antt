@@ -126,7 +126,8 @@ IsBlockDecided block near last = (u : Units) (row : Row) → units_asked block �
 
 -- and that of each block
 abbrev pub AreDecided : Parts → TableRows → TableRows → Type 0
-AreDecided p near last = (b : ℕ) (block : Block) → block_at p.blocks b ≡ Some block → IsBlockDecided block (as_table p near (targets.Block b)) (as_table p last (targets.Block b))
+AreDecided p near last = (b : ℕ) (block : Block) → block_at p.blocks b ≡ Some block
+    → IsBlockDecided block (as_table p near (targets.Block b)) (as_table p last (targets.Block b))
 
 -- A JUMP
 

@@ -176,4 +176,5 @@ StartIsKept = (p : Parts) → AreKept p (start p)
 
 -- a table that they keep and that is settled passes where any table does
 abbrev pub SettledPasses : Type 0
-SettledPasses = (p : Parts) (rows : TableRows) (t : Table) → NoneChanged p → AreKept p rows → IsSettled p rows → IsByPlace p t → FlowPasses p t → FlowPasses p (as_table p rows)
+SettledPasses = (p : Parts) (rows : TableRows) (t : Table) → NoneChanged p → AreKept p rows → IsSettled p rows → IsByPlace p t
+    → FlowPasses p t → FlowPasses p (as_table p rows)

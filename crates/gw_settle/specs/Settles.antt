@@ -58,7 +58,8 @@ IsNoFlowFault p fault = (fault ≡ out_of_memory) ⊎ IsTooLarge p fault
 
 -- a refusal is no fault of flow, or the first one that flow finds in the object with the assembler's table
 abbrev pub IsRefused : Parts → Fault → Type 0
-IsRefused p fault = IsNoFlowFault p fault ⊎ ((q : Parts) × DiffersInTable p q × HasAssemblersTable p q × (first_broken (flow_checks q (own_table q)) ≡ Some fault))
+IsRefused p fault = IsNoFlowFault p fault
+    ⊎ ((q : Parts) × DiffersInTable p q × HasAssemblersTable p q × (first_broken (flow_checks q (own_table q)) ≡ Some fault))
 
 -- no model is refused for its own table: where flow passes with any table, the refusal is no fault of flow
 abbrev pub IsComplete : Parts → Fault → Type 0

@@ -1,5 +1,6 @@
 -- Versions of the rows of blocks: rows of one version say the same.
-use Rattle.std.specs.Prelude.{◌≡◌, ◌≢◌, ◌⊎◌, ◌≤◌, ℕ, ◌+◌, List, [], ◌∷◌, length, get_or, set, slice_get, filter, map, not, ◌==◌, Option, Some, option_to_list, Bool, true, if◌then◌else◌}
+use Rattle.std.specs.Prelude.{◌≡◌, ◌≢◌, ◌⊎◌, ◌≤◌, ℕ, ◌+◌, List, [], ◌∷◌, length, get_or, set, slice_get, filter, map, not, ◌==◌, Option, Some}
+use Rattle.std.specs.Prelude.{option_to_list, Bool, true, if◌then◌else◌}
 use Rattle.std.specs.List.{list_all}
 use Rattle.std.specs.Option.{option_flatten}
 use Rattle.gw_object.specs.declared.parts.Parts.{Parts}

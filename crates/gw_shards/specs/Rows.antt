@@ -72,7 +72,8 @@ abbrev pub PutsRowsOf : {E : Type 0} → Result (Unit {0}) E → declared_rows.C
 PutsRowsOf result common first end last point old new =
     OnOk result (AddsRowsOf (view common) first end last.items point old.items new.items)
 
-abbrev pub PutsRowsOfPoints : {E : Type 0} → Result (Unit {0}) E → declared_rows.Common → ℕ → ℕ → Vec ℕ Global → List Alternative → Vec ℕ Global → Vec ℕ Global → Type 0
+abbrev pub PutsRowsOfPoints : {E : Type 0} → Result (Unit {0}) E → declared_rows.Common → ℕ → ℕ → Vec ℕ Global → List Alternative
+    → Vec ℕ Global → Vec ℕ Global → Type 0
 PutsRowsOfPoints result common first end last points old new =
     OnOk result (AddsRowsOfPoints (view common) first end last.items points old.items new.items)
 

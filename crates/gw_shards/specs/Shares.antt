@@ -44,7 +44,8 @@ abbrev pub PutsPart : {E : Type 0} → Result (Unit {0}) E → declared_rows.Com
 PutsPart result common first end last point old new =
     OnOk result (AddsPart (view common) first end last.items point old.items new.items)
 
-abbrev pub PutsParts : {E : Type 0} → Result (Unit {0}) E → declared_rows.Common → Share → ℕ → Vec ℕ Global → List Alternative → Vec ℕ Global → Vec ℕ Global → Type 0
+abbrev pub PutsParts : {E : Type 0} → Result (Unit {0}) E → declared_rows.Common → Share → ℕ → Vec ℕ Global → List Alternative
+    → Vec ℕ Global → Vec ℕ Global → Type 0
 PutsParts result common share runs last points old new =
     OnOk result (AddsParts (view common) share runs 0 last.items points old.items new.items)
 

@@ -61,7 +61,9 @@ differ_alike p q h = subst (λ (y : Parts). AreAlike p y) h refl
 
 -- what is alike twice
 pub alike_both : (p o x : Parts) → AreAlike p o → AreAlike o x → AreAlike p x
-alike_both p o x first second = subst (λ (y : Parts). AreAlike p y) second (subst (λ (y : Parts). AreAlike p (record y { version = x.version; weights = x.weights; slopes = x.slopes; chain_weights = x.chain_weights })) first refl)
+alike_both p o x first second =
+    subst (λ (y : Parts). AreAlike p y) second
+    (subst (λ (y : Parts). AreAlike p (record y { version = x.version; weights = x.weights; slopes = x.slopes; chain_weights = x.chain_weights })) first refl)
 
 -- one parameter more
 pub none_more : (p : Parts) (q : ℕ) → HelpNoneBefore p q → (is_tried p q ≡ true → HelpsNone p q) → HelpNoneBefore p (q + 1)

@@ -1,5 +1,6 @@
 -- Marks that are put one after the other are those of the blocks that get a slope.
-use Rattle.std.proofs.Common.{◌≡◌, ◌≢◌, ℕ, zero, suc, ◌+◌, ◌-◌, ◌<◌, ◌≤◌, List, [], ◌∷◌, length, set, replicate, Option, Some, None, Bool, true, false, not, ◌&&◌, ◌||◌, refl, sym, ap, ◌∙◌, subst, arith, inl, inr, get_or}
+use Rattle.std.proofs.Common.{◌≡◌, ◌≢◌, ℕ, zero, suc, ◌+◌, ◌-◌, ◌<◌, ◌≤◌, List, [], ◌∷◌, length, set, replicate, Option, Some, None, Bool, true}
+use Rattle.std.proofs.Common.{false, not, ◌&&◌, ◌||◌, refl, sym, ap, ◌∙◌, subst, arith, inl, inr, get_or}
 use Rattle.std.specs.Prelude.{slice_get}
 use Rattle.std.specs.List.{list_any}
 use Rattle.std.proofs.lemmas.Bool.{cases_eq, cases_lt, and_parts, or_parts, or_cases, false≢true}
@@ -37,7 +38,8 @@ none_marked (suc n) (suc i) = none_marked n i
 module _ (p : Parts) (q : ℕ) where
   -- WHAT IS DUE GETS A SLOPE
 
-  row_sloped : (marks : List Bool) (b : ℕ) (block : Block) (row : Row) → AreSound p q marks → block_at p.blocks b ≡ Some block → own_row p b ≡ Some row → asks_in marks q b block row ≡ true → Sloped p.blocks (own_row p) q b
+  row_sloped : (marks : List Bool) (b : ℕ) (block : Block) (row : Row) → AreSound p q marks → block_at p.blocks b ≡ Some block
+      → own_row p b ≡ Some row → asks_in marks q b block row ≡ true → Sloped p.blocks (own_row p) q b
   row_sloped marks b block row sound there has asked =
       let exits = exits_with (returns_read block row) block in
       elim (or_cases (counts q block) (list_any (leads_back marks b block q) exits) asked) [
@@ -49,7 +51,8 @@ module _ (p : Parts) (q : ℕ) where
             leads b block row exit there has (m.0, m.2, m.3) two.0 (sound (leads_to b exit.way) two.1)
       ]
 
-  asked_sloped : (marks : List Bool) (i : ℕ) → AreSound p q marks → (o : Option Block) → slice_get p.blocks i ≡ o → asks p marks q (suc i) o ≡ true → Sloped p.blocks (own_row p) q (suc i)
+  asked_sloped : (marks : List Bool) (i : ℕ) → AreSound p q marks → (o : Option Block) → slice_get p.blocks i ≡ o
+      → asks p marks q (suc i) o ≡ true → Sloped p.blocks (own_row p) q (suc i)
   asked_sloped marks i sound None is h = absurd (false≢true h)
   asked_sloped marks i sound (Some block) is h = by_row (own_row p (suc i)) refl h
     where
@@ -70,7 +73,8 @@ module _ (p : Parts) (q : ℕ) where
   -- WHERE NOTHING IS DUE ALL ARE MARKED
 
   module _ (marks : List Bool) (none : (i : ℕ) → i < length p.blocks → is_due p q marks i ≡ false) where
-    asked_marked : (b : ℕ) (block : Block) (row : Row) → block_at p.blocks b ≡ Some block → own_row p b ≡ Some row → asks_in marks q b block row ≡ true → marked_at marks b ≡ true
+    asked_marked : (b : ℕ) (block : Block) (row : Row) → block_at p.blocks b ≡ Some block → own_row p b ≡ Some row
+        → asks_in marks q b block row ≡ true → marked_at marks b ≡ true
     asked_marked zero block row there has asked = absurd (cc)
     asked_marked (suc i) block row there has asked = by_mark (get_or marks i false) refl
       where
@@ -80,7 +84,8 @@ module _ (p : Parts) (q : ℕ) where
         by_mark : (m : Bool) → get_or marks i false ≡ m → get_or marks i false ≡ true
         by_mark true e = e
         by_mark false e =
-            absurd (false≢true (sym (none i (slice_get_within p.blocks i block there)) ∙ ap (λ m. not m && asks p marks q (suc i) (slice_get p.blocks i)) e ∙ due))
+            absurd (false≢true (sym (none i (slice_get_within p.blocks i block there))
+            ∙ ap (λ m. not m && asks p marks q (suc i) (slice_get p.blocks i)) e ∙ due))
 
     pub all_marked : {b : ℕ} → Sloped p.blocks (own_row p) q b → marked_at marks b ≡ true
     all_marked (loops b block row there has is) =
@@ -107,11 +112,13 @@ module _ (p : Parts) (q : ℕ) where
     none = λ h i within far. absurd (omega (arith, within, far));
   }
 
-  at_most : (old new : List Bool) (marked : Bool) → (marked ≡ true → missing_marks new < missing_marks old) → (marked ≡ false → new ≡ old) → missing_marks new ≤ missing_marks old
+  at_most : (old new : List Bool) (marked : Bool) → (marked ≡ true → missing_marks new < missing_marks old) → (marked ≡ false → new ≡ old)
+      → missing_marks new ≤ missing_marks old
   at_most old new true fewer same = omega (arith, fewer refl)
   at_most old new false fewer same = omega (arith, ap missing_marks (same refl))
 
-  pub goes_on : (old v x : List Bool) (marked due : Bool) (steps place : ℕ) → IsOn p q steps old v marked → steps < length old → place ≡ length old - 1 - steps → due ≡ is_due p q v place → x ≡ marked_if due v place → IsOn p q (steps + 1) old x (marked || due)
+  pub goes_on : (old v x : List Bool) (marked due : Bool) (steps place : ℕ) → IsOn p q steps old v marked → steps < length old → place
+      ≡ length old - 1 - steps → due ≡ is_due p q v place → x ≡ marked_if due v place → IsOn p q (steps + 1) old x (marked || due)
   goes_on old v x marked true steps place on within at is put =
       let here : place < length v = omega (arith, within, at, on.many) in
       let unmarked = (and_parts (not (get_or v place false)) (asks p v q (suc place) (slice_get p.blocks place)) (sym is)).0 in
@@ -172,7 +179,8 @@ module _ (p : Parts) (q : ℕ) where
   stay_both old v new first second = (second.0 ∙ first.0, λ h. second.1 (first.1 h))
 
   -- sound marks of which none is due are all
-  pub are_marks : (marks : List Bool) → length marks ≡ length p.blocks → AreSound p q marks → ((i : ℕ) → i < length marks → is_due p q marks i ≡ false) → AreMarks p q marks
+  pub are_marks : (marks : List Bool) → length marks ≡ length p.blocks → AreSound p q marks
+      → ((i : ℕ) → i < length marks → is_due p q marks i ≡ false) → AreMarks p q marks
   are_marks marks many sound none = record {
     many = many;
     sound = sound;

@@ -9,7 +9,8 @@ use Rattle.gw_slopes.specs.Sloped.{marked_at, leads_back}
 marked_behind : (marks : List Bool) (c : ℕ) → marked_at marks (c + 1) ≡ get_or marks c false
 marked_behind marks c = let one : c + 1 ≡ suc c = omega arith in ap (marked_at marks) one
 
-pub any_behind : (marks : List Bool) (b parameter q : ℕ) (callers : List ℕ) → list_any (leads_back marks b (blocks.TransferByParameter parameter) q) (map returns_to callers) ≡ list_any (λ c. get_or marks c false) callers
+pub any_behind : (marks : List Bool) (b parameter q : ℕ) (callers : List ℕ)
+    → list_any (leads_back marks b (blocks.TransferByParameter parameter) q) (map returns_to callers) ≡ list_any (λ c. get_or marks c false) callers
 any_behind marks b parameter q [] = refl
 any_behind marks b parameter q (c ∷ callers) =
     ap (λ first. first || list_any (leads_back marks b (blocks.TransferByParameter parameter) q) (map returns_to callers)) (marked_behind marks c)

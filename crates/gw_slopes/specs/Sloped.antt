@@ -31,10 +31,12 @@ asks_own Changes = true
 abbrev pub asks_back : Block → ℕ → Exit → Bool
 asks_back block q exit = goes_at_once exit && asks_own (treats block exit.way q)
 
--- the blocks that get a slope on parameter q, among blocks with rows: each LOOP on it, and each from which somebody goes at once to one that gets it, where that asks for one
+-- the blocks that get a slope on parameter q, among blocks with rows: each LOOP on it, and each from which somebody
+-- goes at once to one that gets it, where that asks for one
 pub data Sloped (bs : List Block) (rows : ℕ → Option Row) (q : ℕ) : ℕ → Type 0 where
   loops : (b : ℕ) (block : Block) (row : Row) → block_at bs b ≡ Some block → rows b ≡ Some row → counts q block ≡ true → Sloped bs rows q b
-  leads : (b : ℕ) (block : Block) (row : Row) (exit : Exit) → block_at bs b ≡ Some block → rows b ≡ Some row → Contains (exits_with (returns_read block row) block) exit → asks_back block q exit ≡ true
+  leads : (b : ℕ) (block : Block) (row : Row) (exit : Exit) → block_at bs b ≡ Some block → rows b ≡ Some row
+      → Contains (exits_with (returns_read block row) block) exit → asks_back block q exit ≡ true
       → Sloped bs rows q (leads_to b exit.way) → Sloped bs rows q b
 
 -- MARKS

@@ -11,12 +11,12 @@ ghost use Rattle.gw_pieces.specs.Reasons as origin;
 ghost use Rattle.gw_source_lines.specs.Lines as model;
 
 use crate::places::Sources;
+use gw_name_uses::{Site, uses_in};
 use gw_names::{Known, Ledger, Sighted, Use, known_names};
 use gw_object::Memory;
 use gw_pieces::procedure_lines;
 use gw_rules::EntityKind;
 use gw_text::{Model, Statement};
-use gw_name_uses::{Site, uses_in};
 use std::alloc::Global;
 
 /// A line, behind others.

@@ -1,6 +1,7 @@
 -- What values say: their mean, the least and the greatest, and how far the mean may lie from the true
 -- one. All in the unit of the values.
-use Rattle.std.specs.Prelude.{◌≡◌, ◌≤◌, ◌<◌, ℕ, ◌-◌, ◌*◌, ◌^◌, nat_le, nat_lt, List, [], ◌∷◌, length, fold, ℤ, pos, ◌+ℤ◌, ◌-ℤ◌, unsigned_abs, Option, None, IsSomeAnd, Bool, ◌&&◌, MatchBool}
+use Rattle.std.specs.Prelude.{◌≡◌, ◌≤◌, ◌<◌, ℕ, ◌-◌, ◌*◌, ◌^◌, nat_le, nat_lt, List, [], ◌∷◌, length, fold, ℤ, pos, ◌+ℤ◌, ◌-ℤ◌, unsigned_abs, Option}
+use Rattle.std.specs.Prelude.{None, IsSomeAnd, Bool, ◌&&◌, MatchBool}
 use Rattle.std.specs.Int.{int_min, int_max}
 use Rattle.std.specs.List.{list_all, sum_by}
 use Rattle.gw_statistics.specs.Quantiles.{quantile}

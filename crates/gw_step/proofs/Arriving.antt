@@ -1,5 +1,6 @@
 -- Arrivals: what a GENERATE does, and the state before the first step.
-use Rattle.std.proofs.Common.{◌≡◌, ℕ, zero, suc, ◌+◌, ◌≤◌, ℤ, List, [], ◌∷◌, length, map, Option, Some, None, true, false, pos, ◌≤ℤ◌, refl, sym, ap, ◌∙◌, subst, arith}
+use Rattle.std.proofs.Common.{◌≡◌, ℕ, zero, suc, ◌+◌, ◌≤◌, ℤ, List, [], ◌∷◌, length, map, Option, Some, None, true, false, pos, ◌≤ℤ◌, refl, sym, ap}
+use Rattle.std.proofs.Common.{◌∙◌, subst, arith}
 use Rattle.std.specs.Prelude.{◌<ℤ◌, sum, slice_get, nat_le, IfSome}
 use Rattle.std.proofs.lemmas.List.Elements.{All-nil}
 use Rattle.gw_blocks.specs.declared.parts.Generate.{Generate}
@@ -66,7 +67,8 @@ record Scheduled (p : Parts) (k : ℕ) (s : State) (n : ℕ) (t : Transaction) (
   clock : after.clock ≡ s.clock
   entries : after.entries ≡ s.entries
 
-module _ (p : Parts) (sound : IsSound p) (s : State) (n : ℕ) (t : Transaction) (k : ℕ) (g : Generate) (row : Row) (acts : Acts p s n t (blocks.Generate g) row) where
+module _ (p : Parts) (sound : IsSound p) (s : State) (n : ℕ) (t : Transaction) (k : ℕ) (g : Generate) (row : Row)
+    (acts : Acts p s n t (blocks.Generate g) row) where
   empty_row : is_empty row ≡ true
   empty_row = the_rule p t.next codes.edge_state (is_empty row) (blocks.Generate g) row refl acts.flow
 
@@ -75,14 +77,19 @@ module _ (p : Parts) (sound : IsSound p) (s : State) (n : ℕ) (t : Transaction)
       safe_if (Scheduled p k s n t) (is_owed g.limit (at 0 s.scheduled t.next)) _ (Gives s)
       (λ owed.
       let env = environment_of_next g.priority s in
-      safe_bind (λ d. IsDrawn s.clock s.streams d × (takes_time g.interval.mean g.interval.half ≡ true → s.clock <ℤ d.0)) (Scheduled p k s n t) (drawn_moment p env g.interval s.clock s.streams) _
-      (safe_given (IsDrawn s.clock s.streams) (λ d. takes_time g.interval.mean g.interval.half ≡ true → s.clock <ℤ d.0) (drawn_moment p env g.interval s.clock s.streams) (safe_drawn p sound env g.interval s.clock s.streams (interval_read p sound.entities t.next g row acts.kinds acts.flow empty_row env)) (moment_passes p env g.interval s.clock s.streams))
+      safe_bind (λ d. IsDrawn s.clock s.streams d × (takes_time g.interval.mean g.interval.half ≡ true → s.clock <ℤ d.0))
+      (Scheduled p k s n t) (drawn_moment p env g.interval s.clock s.streams) _
+      (safe_given (IsDrawn s.clock s.streams) (λ d. takes_time g.interval.mean g.interval.half ≡ true → s.clock <ℤ d.0)
+      (drawn_moment p env g.interval s.clock s.streams)
+      (safe_drawn p sound env g.interval s.clock s.streams
+      (interval_read p sound.entities t.next g row acts.kinds acts.flow empty_row env)) (moment_passes p env g.interval s.clock s.streams))
       (λ d drawn.
       safe_if (Scheduled p k s n t) (nat_le (live_count s.transactions + 1) 65536) (Gives (arrives t.next g.priority d.0 (with_streams d.1 s))) _
       (λ few.
       record {
         arrivals = suc (made_in k);
-        trace = Then (Draws d.1 drawn.0.keeps) (Then (Arrives t.next g row g.priority d.0 acts.is.block_is acts.is.row_is empty_row drawn.0.later drawn.1 owed few) Done);
+        trace = Then (Draws d.1 drawn.0.keeps)
+            (Then (Arrives t.next g row g.priority d.0 acts.is.block_is acts.is.row_is empty_row drawn.0.later drawn.1 owed few) Done);
         few = omega arith;
         found = attributes-past s.transactions n t _ acts.is.found;
         free = chain-past s.transactions n t _ acts.is.found ∙ acts.is.free;
@@ -91,7 +98,16 @@ module _ (p : Parts) (sound : IsSound p) (s : State) (n : ℕ) (t : Transaction)
         entries = refl;
       })
       (λ many. tt)))
-      (λ none. record { arrivals = made_in k; trace = Done; few = omega arith; found = acts.is.found; free = acts.is.free; active = refl; clock = refl; entries = refl })
+      (λ none. record {
+        arrivals = made_in k;
+        trace = Done;
+        few = omega arith;
+        found = acts.is.found;
+        free = acts.is.free;
+        active = refl;
+        clock = refl;
+        entries = refl;
+      })
 
   pub safe_generate : Safe (Enters p k s n) (generate p n t g s)
   safe_generate =
@@ -106,8 +122,18 @@ module _ (p : Parts) (sound : IsSound p) (s : State) (n : ℕ) (t : Transaction)
         left = 0;
         trace = trace_on p h.trace
             (Then (Goes n (t.next + 1) t (record t { mark = s.clock }) (blocks.Generate g) row row after.entities
-            (record { found = h.found; block_is = acts.is.block_is; row_is = acts.is.row_is; free = h.free }) (record { next = refl; mark = λ clock mark. subst (λ z. pos 0 ≤ℤ z) h.clock clock })
-            (present after.lists n (h.active ∙ acts.active)) (all_as_known row empty_row (parameters_of n after)) (at_first _ []) may (balanced-nothing p n row after.entities) (λ weighted. omega (arith, first_paid p t.next (blocks.Generate g) row acts.is.block_is acts.is.row_is Falls [] refl (parameters_of n after) (parameters_of n after) (λ q. refl) 0 weighted, its_weight p after.transactions n t (blocks.Generate g) row (record { found = h.found; block_is = acts.is.block_is; row_is = acts.is.row_is; free = h.free }) (one_plain p t (blocks.Generate g) acts.is.block_is refl)))) Done);
+            (record { found = h.found; block_is = acts.is.block_is; row_is = acts.is.row_is; free = h.free })
+            (record { next = refl; mark = λ clock mark. subst (λ z. pos 0 ≤ℤ z) h.clock clock })
+            (present after.lists n (h.active ∙ acts.active)) (all_as_known row empty_row (parameters_of n after)) (at_first _ []) may
+            (balanced-nothing p n row after.entities)
+            (λ weighted. omega (
+              arith,
+              first_paid p t.next (blocks.Generate g) row acts.is.block_is acts.is.row_is Falls [] refl (parameters_of n after)
+                  (parameters_of n after) (λ q. refl) 0 weighted,
+              its_weight p after.transactions n t (blocks.Generate g) row
+                  (record { found = h.found; block_is = acts.is.block_is; row_is = acts.is.row_is; free = h.free })
+                  (one_plain p t (blocks.Generate g) acts.is.block_is refl),
+            ))) Done);
         may = tt;
         settles = refl;
         few_entries = omega arith;
@@ -156,13 +182,16 @@ pub record Starts (p : Parts) (s : State) : Type 0 where
   pub typed : WellTyped p s
   pub within : AreWithinCapacity s.entities
 
-module _ (p : Parts) (flow : FlowHolds p (own_table p)) (sound : IsSound p) (read : (b : ℕ) (g : Generate) → block_at p.blocks b ≡ Some (blocks.Generate g) → (env : Environment) → AreRead p env (g.interval.mean ∷ g.interval.half ∷ [])) where
+module _ (p : Parts) (flow : FlowHolds p (own_table p)) (sound : IsSound p)
+    (read : (b : ℕ) (g : Generate) → block_at p.blocks b ≡ Some (blocks.Generate g) → (env : Environment)
+    → AreRead p env (g.interval.mean ∷ g.interval.half ∷ [])) where
   -- there is a time for a first arrival, or a named end
   moment_safe : (b : ℕ) (g : Generate) (s : State) → block_at p.blocks b ≡ Some (blocks.Generate g) → (first : Option ℤ) → Safe Any (first_moment p g s first)
   moment_safe b g s is (Some time) = tt
   moment_safe b g s is None =
       let env = environment_of_next g.priority s in
-      safe_then (IsDrawn s.clock s.streams) Any (drawn_moment p env g.interval s.clock s.streams) (safe_drawn p sound env g.interval s.clock s.streams (read b g is env)) (λ _ _. tt)
+      safe_then (IsDrawn s.clock s.streams) Any (drawn_moment p env g.interval s.clock s.streams)
+      (safe_drawn p sound env g.interval s.clock s.streams (read b g is env)) (λ _ _. tt)
 
   first_typed : (b : ℕ) (block : Block) (s : State) → block_at p.blocks b ≡ Some block → Starts p s → Safe (Starts p) (first_arrival p b block s)
   first_typed b block s =
@@ -175,7 +204,9 @@ module _ (p : Parts) (flow : FlowHolds p (own_table p)) (sound : IsSound p) (rea
       (λ x none is h. subst (Safe (Starts p)) (sym (none p b s)) h)
       block
 
-  firsts_typed : (b : ℕ) (bs : List Block) (s : State) → ((i : ℕ) (block : Block) → slice_get bs i ≡ Some block → block_at p.blocks (b + i) ≡ Some block) → Starts p s → Safe (Starts p) (first_arrivals p b bs s)
+  firsts_typed : (b : ℕ) (bs : List Block) (s : State)
+      → ((i : ℕ) (block : Block) → slice_get bs i ≡ Some block → block_at p.blocks (b + i) ≡ Some block) → Starts p s
+      → Safe (Starts p) (first_arrivals p b bs s)
   unfolding first_arrivals
   firsts_typed b [] s there h = h
   firsts_typed b (block ∷ rest) s there h =
@@ -192,4 +223,5 @@ module _ (p : Parts) (flow : FlowHolds p (own_table p)) (sound : IsSound p) (rea
   start_typed count streams =
       let none : Starts p (nothing p count streams) = record { typed = nothing_typed p count streams; within = nothing_fills p count streams } in
       started_typed (first_arrivals p 1 p.blocks (nothing p count streams)) (nothing p count streams) none
-      (firsts_typed 1 p.blocks (nothing p count streams) (λ i block is. let one : suc i ≡ 1 + i = omega arith in subst (λ k. block_at p.blocks k ≡ Some block) one is) none)
+      (firsts_typed 1 p.blocks (nothing p count streams)
+      (λ i block is. let one : suc i ≡ 1 + i = omega arith in subst (λ k. block_at p.blocks k ≡ Some block) one is) none)

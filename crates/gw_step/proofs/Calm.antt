@@ -1,5 +1,6 @@
 -- How much is still to be moved at once: it falls with each step of a clock moment that makes no entry.
-use Rattle.std.proofs.Common.{◌≡◌, ℕ, suc, ◌+◌, ◌*◌, ◌≤◌, ℤ, List, [], ◌∷◌, ◌++◌, length, Option, Some, None, Bool, true, false, is_some, if◌then◌else◌, refl, sym, ap, ◌∙◌, subst, arith, inl, inr}
+use Rattle.std.proofs.Common.{◌≡◌, ℕ, suc, ◌+◌, ◌*◌, ◌≤◌, ℤ, List, [], ◌∷◌, ◌++◌, length, Option, Some, None, Bool, true, false, is_some}
+use Rattle.std.proofs.Common.{if◌then◌else◌, refl, sym, ap, ◌∙◌, subst, arith, inl, inr}
 use Rattle.std.specs.Prelude.{int_le, sum, IsSome}
 use Rattle.std.proofs.lemmas.Bool.{cases_eq}
 use Rattle.std.proofs.lemmas.Int.{ints}
@@ -19,7 +20,8 @@ use Rattle.gw_step.specs.Numbers.{AreFewLive}
 use Rattle.gw_step.specs.Typing.{WellTyped}
 use Rattle.gw_step.proofs.Residence.{one_if, same_number, at_most_one, occurrences-append}
 use Rattle.gw_step.proofs.Within.{sum-raised}
-use Rattle.gw_step.proofs.Traces.{Change, Goes, EntersLast, Turns, GoesWith, Arrives, Copied, Rests, Called, Assembled, Comes, Unlinked, Woken, Activates, ClockMoves, Draws, Counts, Marks, Trace, Done, Then}
+use Rattle.gw_step.proofs.Traces.{Change, Goes, EntersLast, Turns, GoesWith, Arrives, Copied, Rests, Called, Assembled, Comes, Unlinked, Woken}
+use Rattle.gw_step.proofs.Traces.{Activates, ClockMoves, Draws, Counts, Marks, Trace, Done, Then}
 use Rattle.gw_step.proofs.Placed.{placed_at-leaves, placed-leaves}
 use Rattle.gw_step.proofs.Bounds.{written-live}
 
@@ -103,13 +105,19 @@ length-placed : (passes : ℕ → Bool) (x : ℕ) (xs : List ℕ) → length (pl
 length-placed passes x [] = refl
 length-placed passes x (y ∷ ys) = by_test (passes y) (length-placed passes x ys)
   where
-    by_test : (b : Bool) → length (placed_behind passes x ys) ≡ suc (length ys) → length (if b then y ∷ placed_behind passes x ys else x ∷ y ∷ ys) ≡ suc (suc (length ys))
+    by_test : (b : Bool) → length (placed_behind passes x ys) ≡ suc (length ys)
+        → length (if b then y ∷ placed_behind passes x ys else x ∷ y ∷ ys) ≡ suc (suc (length ys))
     by_test true more = omega (arith, more)
     by_test false more = refl
 
 length-woken : (priority : ℕ → ℤ) (xs ys : List ℕ) → length (all_behind priority xs ys) ≡ length xs + length ys
 length-woken priority [] ys = omega arith
-length-woken priority (x ∷ xs) ys = omega (arith, length-woken priority xs (placed_behind (λ y. int_le (priority x) (priority y)) x ys), length-placed (λ y. int_le (priority x) (priority y)) x ys)
+length-woken priority (x ∷ xs) ys =
+    omega (
+      arith,
+      length-woken priority xs (placed_behind (λ y. int_le (priority x) (priority y)) x ys),
+      length-placed (λ y. int_le (priority x) (priority y)) x ys,
+    )
 
 -- STEPS WITHOUT AN ENTRY
 
@@ -142,7 +150,8 @@ module _ (n : ℕ) (s : State) (active : s.lists.active ≡ Some n) where
   refused_calms placement refuses = absurd refuses
 
 -- the first of the current events chain becomes active
-pub activates_calms : (n : ℕ) (ns : List ℕ) (s : State) → s.lists.active ≡ None → s.lists.current_events ≡ n ∷ ns → unrest (record s { lists = record s.lists { active = Some n; current_events = ns } }) + 1 ≤ unrest s
+pub activates_calms : (n : ℕ) (ns : List ℕ) (s : State) → s.lists.active ≡ None → s.lists.current_events ≡ n ∷ ns
+    → unrest (record s { lists = record s.lists { active = Some n; current_events = ns } }) + 1 ≤ unrest s
 activates_calms n ns s nobody first =
     let none : length (active_numbers s.lists.active) ≡ 0 = ap (λ a. length (active_numbers a)) nobody in
     let one : length s.lists.current_events ≡ suc (length ns) = ap (λ (xs : List ℕ). length xs) first in
@@ -153,16 +162,19 @@ not_due : (moment : ℤ) (es : List FutureEvent) → is_due moment (later (λ (e
 not_due moment [] = refl
 not_due moment (e ∷ es) = by_test (int_le e.time moment) refl (not_due moment es)
   where
-    by_test : (b : Bool) → int_le e.time moment ≡ b → is_due moment (later (λ (e : FutureEvent). e.time) moment es) ≡ false → is_due moment (if b then later (λ (e : FutureEvent). e.time) moment es else e ∷ es) ≡ false
+    by_test : (b : Bool) → int_le e.time moment ≡ b → is_due moment (later (λ (e : FutureEvent). e.time) moment es) ≡ false
+        → is_due moment (if b then later (λ (e : FutureEvent). e.time) moment es else e ∷ es) ≡ false
     by_test true is none = none
     by_test false is none = is
 
 -- the clock moves to where it is: all that are due join the current events chain, and the retry list is woken
-pub clock_calms : (s : State) (e : FutureEvent) (es : List FutureEvent) → s.lists.active ≡ None → s.lists.future_events ≡ e ∷ es → (wake (clock_moves e.time s)).clock ≡ s.clock → AreFew (wake (clock_moves e.time s)) → unrest (wake (clock_moves e.time s)) + 1 ≤ unrest s
+pub clock_calms : (s : State) (e : FutureEvent) (es : List FutureEvent) → s.lists.active ≡ None → s.lists.future_events ≡ e ∷ es
+    → (wake (clock_moves e.time s)).clock ≡ s.clock → AreFew (wake (clock_moves e.time s)) → unrest (wake (clock_moves e.time s)) + 1 ≤ unrest s
 clock_calms s e es nobody first same few =
     let none : length (active_numbers s.lists.active) ≡ 0 = ap (λ a. length (active_numbers a)) nobody in
     let was : again (is_due s.clock s.lists.future_events) ≡ again true = ap (λ xs. again (is_due s.clock xs)) first ∙ ap again (due_now same) in
-    let is : again (is_due e.time (later (λ (x : FutureEvent). x.time) e.time s.lists.future_events)) ≡ again false = ap again (not_due e.time s.lists.future_events) in
+    let is : again (is_due e.time (later (λ (x : FutureEvent). x.time) e.time s.lists.future_events)) ≡ again false =
+    ap again (not_due e.time s.lists.future_events) in
     omega (arith, few.few, none, was, is)
   where
     due_now : e.time ≡ s.clock → int_le e.time s.clock ≡ true

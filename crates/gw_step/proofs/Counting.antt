@@ -1,5 +1,6 @@
 -- What a scan leaves of the counts: the steps, the end and the termination count; and of whether something has stirred.
-use Rattle.std.proofs.Common.{◌≡◌, ◌⊎◌, ℕ, ◌+◌, ℤ, pos, ◌<ℤ◌, List, [], ◌∷◌, Option, Some, None, Bool, true, false, not, if◌then◌else◌, nat_le, ◌==◌, zero, suc, refl, sym, ap, ◌∙◌, subst, arith, inl, inr}
+use Rattle.std.proofs.Common.{◌≡◌, ◌⊎◌, ℕ, ◌+◌, ℤ, pos, ◌<ℤ◌, List, [], ◌∷◌, Option, Some, None, Bool, true, false, not, if◌then◌else◌, nat_le, ◌==◌}
+use Rattle.std.proofs.Common.{zero, suc, refl, sym, ap, ◌∙◌, subst, arith, inl, inr}
 use Rattle.std.specs.Prelude.{int_lt, unwrap_or}
 use Rattle.std.proofs.lemmas.Int.{ints}
 use Rattle.gw_blocks.specs.declared.parts.Generate.{Generate}
@@ -26,11 +27,15 @@ use Rattle.gw_step.specs.declared.placement.Placement.{Placement}
 use Rattle.gw_step.specs.Outcome.{Outcome, Gives, EndsBy, HasNoCase, ◌>>=◌, case_of, evaluation_outcome}
 use Rattle.gw_step.specs.State.{FutureEvent, Assembly, State, may_enter, with_streams, delay_list, user_chain}
 use Rattle.gw_step.specs.Times.{environment_of, environment_of_next, moment_after, drawn_moment}
-use Rattle.gw_step.specs.Changes.{copy_to, copies_made, assemble_all, come_to, leaves_chain, enter_next, enters_and_falls, assign_to, arrives, facility, storage, queue, switch, savevalue, put_facility, put_storage, put_queue, put_switch, put_savevalue, table, put_table, end_at, wake}
+use Rattle.gw_step.specs.Changes.{copy_to, copies_made, assemble_all, come_to, leaves_chain, enter_next, enters_and_falls, assign_to, arrives}
+use Rattle.gw_step.specs.Changes.{facility, storage, queue, switch, savevalue, put_facility, put_storage, put_queue, put_switch, put_savevalue, table}
+use Rattle.gw_step.specs.Changes.{put_table, end_at, wake}
 use Rattle.gw_step.specs.declared.placement.Placement.TheVariants.{StaysActive, JoinsRetryList}
 use Rattle.gw_step.specs.Placing.{place_by, woken_if_stirred}
 use Rattle.gw_step.specs.Typing.{IsWoken}
-use Rattle.gw_step.specs.Blocks.{refuses, refused_placement, is_owed, next_arrival, choice_of, passes_test, is_so, led_by, block_after, put_by, loop_target, switch_after, the_value, plus, split, assembly_at, joined_by_one, first_unlinked, unlink_members, taken_by, unlink, assemble_in, assemble, is_priority, effect, then_placed, meets, act}
+use Rattle.gw_step.specs.Blocks.{refuses, refused_placement, is_owed, next_arrival, choice_of, passes_test, is_so, led_by, block_after, put_by}
+use Rattle.gw_step.specs.Blocks.{loop_target, switch_after, the_value, plus, split, assembly_at, joined_by_one, first_unlinked, unlink_members}
+use Rattle.gw_step.specs.Blocks.{taken_by, unlink, assemble_in, assemble, is_priority, effect, then_placed, meets, act}
 use Rattle.gw_step.specs.Turning.{two_next, towards, turn_to}
 use Rattle.gw_step.specs.Step.{next_event, next_active, meets_one, refusal, tries, goes_on, scan}
 use Rattle.gw_step.proofs.Outcomes.{OnGives, on_bind, on_test, on_if, on_both, choose, by_option}
@@ -93,11 +98,14 @@ on_case P None f h = tt
 copies_stay : (k n : ℕ) (t : Transaction) (target : ℕ) (s : State) → Stays s (copies_made k n t target s)
 unfolding copies_made
 copies_stay zero n t target s = stays-same s
-copies_stay (suc k) n t target s = let h = copies_stay k n t target (copy_to n t target s) in record { clock = h.clock; count = h.count; steps = h.steps; ended = h.ended; active = h.active }
+copies_stay (suc k) n t target s = let h = copies_stay k n t target (copy_to n t target s) in
+    record { clock = h.clock; count = h.count; steps = h.steps; ended = h.ended; active = h.active }
 
 -- nor does who comes to an assembly
 joined_stays : (a : Assembly) (s : State) → Stays s (joined_by_one a s)
-joined_stays a s = choose (Stays s) (nat_le a.missing 1) (assemble_all a s) (come_to a s) (λ _. record { clock = refl; count = refl; steps = refl; ended = refl; active = refl }) (λ _. record { clock = refl; count = refl; steps = refl; ended = refl; active = refl })
+joined_stays a s = choose (Stays s) (nat_le a.missing 1) (assemble_all a s) (come_to a s)
+    (λ _. record { clock = refl; count = refl; steps = refl; ended = refl; active = refl })
+    (λ _. record { clock = refl; count = refl; steps = refl; ended = refl; active = refl })
 
 -- nor do members that leave a user chain
 unlinked_stay : (k c target : ℕ) (s : State) → Stays s (unlink_members k c target s)
@@ -109,7 +117,8 @@ unlinked_stay (suc k) c target s =
   where
     first_stays : (ms : List ℕ) → Stays s (first_unlinked c target ms s)
     first_stays [] = stays-same s
-    first_stays (n ∷ ns) = by_option (Stays s) (attributes_at n s.transactions) (λ t. leaves_chain c target n t s) s (λ t there. record { clock = refl; count = refl; steps = refl; ended = refl; active = refl }) (λ none. stays-same s)
+    first_stays (n ∷ ns) = by_option (Stays s) (attributes_at n s.transactions) (λ t. leaves_chain c target n t s) s
+        (λ t there. record { clock = refl; count = refl; steps = refl; ended = refl; active = refl }) (λ none. stays-same s)
 
 module _ (s : State) where
   abbrev Entered : State × Placement → Type 0
@@ -123,72 +132,95 @@ module _ (s : State) where
   arrival_stays p b g =
       on_if (Stays s) (is_owed g.limit (at 0 s.scheduled b)) _ (Gives s)
       (on_bind (Stays s) (drawn_moment p (environment_of_next g.priority s) g.interval s.clock s.streams) _
-      (λ d _. on_if (Stays s) (nat_le (live_count s.transactions + 1) 65536) (Gives (arrives b g.priority d.0 (with_streams d.1 s))) (EndsBy Live) (record { clock = refl; count = refl; steps = refl; ended = refl; active = refl }) tt))
+      (λ d _. on_if (Stays s) (nat_le (live_count s.transactions + 1) 65536) (Gives (arrives b g.priority d.0 (with_streams d.1 s)))
+      (EndsBy Live) (record { clock = refl; count = refl; steps = refl; ended = refl; active = refl }) tt))
       (stays-same s)
 
   plus_counted : (p : Parts) (n : ℕ) (t : Transaction) (q : Option ℕ) (value : ℤ) → OnGives Entered (plus p.blocks n t q value s)
   plus_counted p n t None value = on_test Entered (may_enter (block_at p.blocks (t.next + 1))) _ (passed (enters_and_falls n t s) refl refl refl refl)
-  plus_counted p n t (Some q) value = on_test Entered (may_enter (block_at p.blocks (t.next + 1))) _ (passed (enters_and_falls n t (assign_to n q value s)) refl refl refl refl)
+  plus_counted p n t (Some q) value =
+      on_test Entered (may_enter (block_at p.blocks (t.next + 1))) _ (passed (enters_and_falls n t (assign_to n q value s)) refl refl refl refl)
 
   split_counted : (p : Parts) (n : ℕ) (t : Transaction) (c : Split) → OnGives Entered (split p.blocks n t c s)
   split_counted p n t c =
       let target = leads_to t.next (goes_or_falls c.target) in
       let u = enters_and_falls n t s in
-      let made = enters_on s u (copies_made c.copies n (record t { current = t.next }) target u) (passed u refl refl refl refl) (copies_stay c.copies n (record t { current = t.next }) target u) in
+      let made = enters_on s u (copies_made c.copies n (record t { current = t.next }) target u) (passed u refl refl refl refl)
+      (copies_stay c.copies n (record t { current = t.next }) target u) in
       on_if Entered (nat_le (live_count s.transactions + c.copies) 65536) _ (EndsBy Live)
-      (on_test Entered (may_enter (block_at p.blocks (t.next + 1))) _ (on_if Entered (c.copies == 0) _ _ made (on_test Entered (may_enter (block_at p.blocks target)) _ made)))
+      (on_test Entered (may_enter (block_at p.blocks (t.next + 1))) _
+      (on_if Entered (c.copies == 0) _ _ made (on_test Entered (may_enter (block_at p.blocks target)) _ made)))
       tt
 
   joined_counted : (p : Parts) (n : ℕ) (t : Transaction) (size : ℕ) (o : Option Assembly) → OnGives Entered (assemble_in p.blocks n t size o s)
   joined_counted p n t size None = on_test Entered (may_enter (block_at p.blocks (t.next + 1))) _ (passed (enters_and_falls n t s) refl refl refl refl)
-  joined_counted p n t size (Some a) = let u = enter_next n t t.next s in on_test Entered (not (owns_any n s.entities.facilities)) _ (enters_on s u (joined_by_one a u) (passed u refl refl refl refl) (joined_stays a u))
+  joined_counted p n t size (Some a) = let u = enter_next n t t.next s in
+      on_test Entered (not (owns_any n s.entities.facilities)) _ (enters_on s u (joined_by_one a u) (passed u refl refl refl refl) (joined_stays a u))
 
   assemble_counted : (p : Parts) (n : ℕ) (t : Transaction) (size : ℕ) → OnGives Entered (assemble p.blocks n t size s)
   assemble_counted p n t size =
-      on_if Entered (nat_le size 1) _ _ (on_test Entered (may_enter (block_at p.blocks (t.next + 1))) _ (passed (enters_and_falls n t s) refl refl refl refl)) (joined_counted p n t size (assembly_at t.next t.set s))
+      on_if Entered (nat_le size 1) _ _
+      (on_test Entered (may_enter (block_at p.blocks (t.next + 1))) _ (passed (enters_and_falls n t s) refl refl refl refl))
+      (joined_counted p n t size (assembly_at t.next t.set s))
 
   unlink_counted : (p : Parts) (n : ℕ) (t : Transaction) (u : Unlink) → OnGives Entered (unlink p.blocks n t u s)
   unlink_counted p n t u =
       let v = enters_and_falls n t s in
-      let made = enters_on s v (unlink_members (taken_by u s) u.chain u.target v) (passed v refl refl refl refl) (unlinked_stay (taken_by u s) u.chain u.target v) in
-      on_test Entered (may_enter (block_at p.blocks (t.next + 1))) _ (on_if Entered (taken_by u s == 0) _ _ made (on_test Entered (may_enter (block_at p.blocks u.target)) _ made))
+      let made = enters_on s v (unlink_members (taken_by u s) u.chain u.target v) (passed v refl refl refl refl)
+      (unlinked_stay (taken_by u s) u.chain u.target v) in
+      on_test Entered (may_enter (block_at p.blocks (t.next + 1))) _
+      (on_if Entered (taken_by u s == 0) _ _ made (on_test Entered (may_enter (block_at p.blocks u.target)) _ made))
 
   effect_counted : (p : Parts) (n : ℕ) (t : Transaction) (block : Block) (values : List ℤ) → OnGives Entered (effect p n t block values s)
   unfolding effect
   effect_counted p n t (blocks.Generate g) values =
       on_both (Stays s) Entered (next_arrival p t.next g s) _ (arrival_stays p t.next g)
-      (λ u h. on_test Entered (may_enter (block_at p.blocks (t.next + 1))) _ (passed (enters_and_falls n (record t { mark = s.clock }) u) h.steps h.ended h.count h.active))
+      (λ u h. on_test Entered (may_enter (block_at p.blocks (t.next + 1))) _
+      (passed (enters_and_falls n (record t { mark = s.clock }) u) h.steps h.ended h.count h.active))
   effect_counted p n t (blocks.Terminate by) values =
-      on_if Entered (int_lt (the_value values) (pos 0)) (EndsBy Number) _ tt (on_test Entered (not (owns_any n s.entities.facilities)) _ (record { counted = record { steps = refl; ended = inr refl }; active = refl }))
+      on_if Entered (int_lt (the_value values) (pos 0)) (EndsBy Number) _ tt
+      (on_test Entered (not (owns_any n s.entities.facilities)) _ (record { counted = record { steps = refl; ended = inr refl }; active = refl }))
   effect_counted p n t (blocks.Advance time) values =
-      on_bind Entered (moment_after s.clock (the_value values)) _ (λ moment _. on_test Entered (may_enter (block_at p.blocks (t.next + 1))) _ (passed (enters_and_falls n t s) refl refl refl refl))
+      on_bind Entered (moment_after s.clock (the_value values)) _
+      (λ moment _. on_test Entered (may_enter (block_at p.blocks (t.next + 1))) _ (passed (enters_and_falls n t s) refl refl refl refl))
   effect_counted p n t (blocks.Seize f) values =
-      on_test Entered (may_enter (block_at p.blocks (t.next + 1))) _ (on_case Entered (seizure_by n (facility f s)) _ (λ r. passed (put_facility f r.1 (enters_and_falls n t s)) refl refl refl refl))
+      on_test Entered (may_enter (block_at p.blocks (t.next + 1))) _
+      (on_case Entered (seizure_by n (facility f s)) _ (λ r. passed (put_facility f r.1 (enters_and_falls n t s)) refl refl refl refl))
   effect_counted p n t (blocks.Release f) values =
       on_test Entered (may_enter (block_at p.blocks (t.next + 1))) _ (on_case Entered (release_by n (facility f s)) _
-      (λ r. let u = put_facility f r (enters_and_falls n t s) in enters_on s u _ (passed u refl refl refl refl) (stays-hand_over p.blocks u f (delay_list f s))))
+      (λ r. let u = put_facility f r (enters_and_falls n t s) in
+      enters_on s u _ (passed u refl refl refl refl) (stays-hand_over p.blocks u f (delay_list f s))))
   effect_counted p n t (blocks.Enter u) values =
-      on_test Entered (may_enter (block_at p.blocks (t.next + 1))) _ (on_case Entered (entry_of u.number (storage u.entity s)) _ (λ r. passed (put_storage u.entity r.1 (enters_and_falls n t s)) refl refl refl refl))
+      on_test Entered (may_enter (block_at p.blocks (t.next + 1))) _
+      (on_case Entered (entry_of u.number (storage u.entity s)) _ (λ r. passed (put_storage u.entity r.1 (enters_and_falls n t s)) refl refl refl refl))
   effect_counted p n t (blocks.Leave u) values =
       on_test Entered (may_enter (block_at p.blocks (t.next + 1))) _ (on_case Entered (exit_of u.number (storage u.entity s)) _
-      (λ r. let v = put_storage u.entity r (enters_and_falls n t s) in enters_on s v _ (passed v refl refl refl refl) (stays-admission p.blocks u.entity (delay_list u.entity s) v)))
-  effect_counted p n t (blocks.Queue u) values = on_test Entered (may_enter (block_at p.blocks (t.next + 1))) _ (passed (put_queue u.entity (with_arrivals u.number (queue u.entity s)) (enters_and_falls n t s)) refl refl refl refl)
+      (λ r. let v = put_storage u.entity r (enters_and_falls n t s) in
+      enters_on s v _ (passed v refl refl refl refl) (stays-admission p.blocks u.entity (delay_list u.entity s) v)))
+  effect_counted p n t (blocks.Queue u) values =
+      on_test Entered (may_enter (block_at p.blocks (t.next + 1))) _
+      (passed (put_queue u.entity (with_arrivals u.number (queue u.entity s)) (enters_and_falls n t s)) refl refl refl refl)
   effect_counted p n t (blocks.Depart u) values =
-      on_test Entered (may_enter (block_at p.blocks (t.next + 1))) _ (on_case Entered (departure_of u.number (queue u.entity s)) _ (λ r. passed (put_queue u.entity r (enters_and_falls n t s)) refl refl refl refl))
+      on_test Entered (may_enter (block_at p.blocks (t.next + 1))) _
+      (on_case Entered (departure_of u.number (queue u.entity s)) _ (λ r. passed (put_queue u.entity r (enters_and_falls n t s)) refl refl refl refl))
   effect_counted p n t (blocks.Assign a) values =
       on_bind Entered (evaluation_outcome (evaluation_of (put_by a.mode (unwrap_or (parameter_at n a.parameter s.transactions) (pos 0)) (the_value values)))) _
-      (λ new _. on_test Entered (may_enter (block_at p.blocks (t.next + 1))) _ (passed (enters_and_falls n t (assign_to n a.parameter new s)) refl refl refl refl))
+      (λ new _. on_test Entered (may_enter (block_at p.blocks (t.next + 1))) _
+      (passed (enters_and_falls n t (assign_to n a.parameter new s)) refl refl refl refl))
   effect_counted p n t (blocks.Test test) values =
       let to = led_by t.next test.otherwise (passes_test test values) in
       on_test Entered (may_enter (block_at p.blocks to)) _ (passed (enter_next n t to s) refl refl refl refl)
   effect_counted p n t (blocks.Gate gate) values =
       let to = led_by t.next gate.otherwise (is_so gate.condition gate.entity s) in
       on_test Entered (may_enter (block_at p.blocks to)) _ (passed (enter_next n t to s) refl refl refl refl)
-  effect_counted p n t (blocks.Transfer target) values = on_test Entered (may_enter (block_at p.blocks target)) _ (passed (enter_next n t target s) refl refl refl refl)
+  effect_counted p n t (blocks.Transfer target) values =
+      on_test Entered (may_enter (block_at p.blocks target)) _ (passed (enter_next n t target s) refl refl refl refl)
   effect_counted p n t (blocks.TransferByFraction f) values =
-      on_test Entered (may_enter (block_at p.blocks (choice_of t.next f (the_value values)))) _ (passed (enter_next n t (choice_of t.next f (the_value values)) s) refl refl refl refl)
+      on_test Entered (may_enter (block_at p.blocks (choice_of t.next f (the_value values)))) _
+      (passed (enter_next n t (choice_of t.next f (the_value values)) s) refl refl refl refl)
   effect_counted p n t (blocks.TransferBoth two) values =
-      on_test Entered (may_enter (block_at p.blocks (leads_to t.next (goes_or_falls two.first)))) _ (on_test Entered (may_enter (block_at p.blocks two.second)) _ (passed (enter_next n t t.next s) refl refl refl refl))
+      on_test Entered (may_enter (block_at p.blocks (leads_to t.next (goes_or_falls two.first)))) _
+      (on_test Entered (may_enter (block_at p.blocks two.second)) _ (passed (enter_next n t t.next s) refl refl refl refl))
   effect_counted p n t (blocks.TransferToSubroutine c) values =
       on_test Entered (may_enter (block_at p.blocks c.target)) _ (passed (enter_next n t c.target (assign_to n c.parameter (pos t.next) s)) refl refl refl refl)
   effect_counted p n t (blocks.TransferByParameter q) values =
@@ -197,12 +229,15 @@ module _ (s : State) where
   effect_counted p n t (blocks.Loop l) values =
       on_bind Entered (case_of (parameter_at n l.parameter s.transactions)) _
       (λ old _. on_bind Entered (evaluation_outcome (evaluation_of (difference_of old (pos 1)))) _
-      (λ left _. on_test Entered (may_enter (block_at p.blocks (loop_target t.next l.target left))) _ (passed (enter_next n t (loop_target t.next l.target left) (assign_to n l.parameter left s)) refl refl refl refl)))
+      (λ left _. on_test Entered (may_enter (block_at p.blocks (loop_target t.next l.target left))) _
+      (passed (enter_next n t (loop_target t.next l.target left) (assign_to n l.parameter left s)) refl refl refl refl)))
   effect_counted p n t (blocks.Logic l) values =
-      on_test Entered (may_enter (block_at p.blocks (t.next + 1))) _ (passed (put_switch l.switch (switch_after l.action (switch l.switch s)) (enters_and_falls n t s)) refl refl refl refl)
+      on_test Entered (may_enter (block_at p.blocks (t.next + 1))) _
+      (passed (put_switch l.switch (switch_after l.action (switch l.switch s)) (enters_and_falls n t s)) refl refl refl refl)
   effect_counted p n t (blocks.Savevalue a) values =
       on_bind Entered (evaluation_outcome (evaluation_of (put_by a.mode (savevalue a.savevalue s) (the_value values)))) _
-      (λ new _. on_test Entered (may_enter (block_at p.blocks (t.next + 1))) _ (passed (put_savevalue a.savevalue new (enters_and_falls n t s)) refl refl refl refl))
+      (λ new _. on_test Entered (may_enter (block_at p.blocks (t.next + 1))) _
+      (passed (put_savevalue a.savevalue new (enters_and_falls n t s)) refl refl refl refl))
   effect_counted p n t (blocks.Tabulate e) values =
       on_bind Entered (evaluation_outcome (evaluation_of (tabulation_of (the_value values) (table e s)))) _
       (λ new _. on_test Entered (may_enter (block_at p.blocks (t.next + 1))) _ (passed (put_table e new (enters_and_falls n t s)) refl refl refl refl))
@@ -211,13 +246,18 @@ module _ (s : State) where
   effect_counted p n t (blocks.Link l) values = passed (enter_next n t t.next s) refl refl refl refl
   effect_counted p n t (blocks.Unlink u) values = unlink_counted p n t u
   effect_counted p n t (blocks.Priority a) values =
-      on_if Entered (is_priority (the_value values)) _ (EndsBy Number) (on_test Entered (may_enter (block_at p.blocks (t.next + 1))) _ (passed (enters_and_falls n (record t { priority = the_value values }) s) refl refl refl refl)) tt
+      on_if Entered (is_priority (the_value values)) _ (EndsBy Number)
+      (on_test Entered (may_enter (block_at p.blocks (t.next + 1))) _
+      (passed (enters_and_falls n (record t { priority = the_value values }) s) refl refl refl refl)) tt
   effect_counted p n t (blocks.Plus a) values = plus_counted p n t a.parameter (the_value values)
-  effect_counted p n t (blocks.Mark None) values = on_test Entered (may_enter (block_at p.blocks (t.next + 1))) _ (passed (enters_and_falls n (record t { mark = s.clock }) s) refl refl refl refl)
-  effect_counted p n t (blocks.Mark (Some q)) values = on_test Entered (may_enter (block_at p.blocks (t.next + 1))) _ (passed (enters_and_falls n t (assign_to n q s.clock s)) refl refl refl refl)
+  effect_counted p n t (blocks.Mark None) values =
+      on_test Entered (may_enter (block_at p.blocks (t.next + 1))) _ (passed (enters_and_falls n (record t { mark = s.clock }) s) refl refl refl refl)
+  effect_counted p n t (blocks.Mark (Some q)) values =
+      on_test Entered (may_enter (block_at p.blocks (t.next + 1))) _ (passed (enters_and_falls n t (assign_to n q s.clock s)) refl refl refl refl)
   effect_counted p n t block values = on_test Entered (may_enter (block_at p.blocks (t.next + 1))) _ (passed (enters_and_falls n t s) refl refl refl refl)
 
-  meets_scans : (p : Parts) (n : ℕ) (t : Transaction) (block : Block) (values : List ℤ) → s.lists.active ≡ Some n → OnGives (Scans s) (meets p n t block values s)
+  meets_scans : (p : Parts) (n : ℕ) (t : Transaction) (block : Block) (values : List ℤ) → s.lists.active ≡ Some n
+      → OnGives (Scans s) (meets p n t block values s)
   meets_scans p n t block values active =
       on_if (Scans s) (refuses n block values s) (Gives (place_by n (refused_placement block) s)) (then_placed n (effect p n t block values s))
       (record { counted = counted_same s _ (placed-leaves n (refused_placement block) s); woken = placed_wakes n (refused_placement block) s active })
@@ -229,7 +269,8 @@ act_scans : (p : Parts) (n : ℕ) (t : Transaction) (block : Block) (s : State) 
 unfolding act
 act_scans p n t block s active =
     on_bind (Scans s) (evaluation_outcome (operands p (environment_of n t s) block s.streams)) _
-    (λ read _. on_then (Scans (with_streams read.1 s)) (Scans s) (meets p n t block read.0 (with_streams read.1 s)) (meets_scans (with_streams read.1 s) p n t block read.0 active)
+    (λ read _. on_then (Scans (with_streams read.1 s)) (Scans s) (meets p n t block read.0 (with_streams read.1 s))
+    (meets_scans (with_streams read.1 s) p n t block read.0 active)
     (λ u h. record { counted = record { steps = h.counted.steps; ended = h.counted.ended }; woken = h.woken }))
 
 -- THE SCAN
@@ -258,26 +299,33 @@ scans_from s u t steps ended count h = record {
   woken = h.woken;
 }
 
-tries_scans : (p : Parts) (n : ℕ) (t : Transaction) (b : ℕ) (otherwise : State → Outcome State) (s : State) → s.lists.active ≡ Some n → ((streams : List ℕ) → OnGives (Scans s) (otherwise (with_streams streams s))) → OnGives (Scans s) (tries p n t b otherwise s)
+tries_scans : (p : Parts) (n : ℕ) (t : Transaction) (b : ℕ) (otherwise : State → Outcome State) (s : State) → s.lists.active ≡ Some n
+    → ((streams : List ℕ) → OnGives (Scans s) (otherwise (with_streams streams s))) → OnGives (Scans s) (tries p n t b otherwise s)
 tries_scans p n t b otherwise s active h =
-    on_bind (Scans s) (refusal p n (towards b t) (turn_to n t b s)) (λ answer. if answer.0 then otherwise (with_streams answer.1 s) else meets_one p n (towards b t) (turn_to n t b s)) (λ answer _.
+    on_bind (Scans s) (refusal p n (towards b t) (turn_to n t b s))
+    (λ answer. if answer.0 then otherwise (with_streams answer.1 s) else meets_one p n (towards b t) (turn_to n t b s)) (λ answer _.
     on_if (Scans s) answer.0 (otherwise (with_streams answer.1 s)) (meets_one p n (towards b t) (turn_to n t b s)) (h answer.1)
-    (on_then (Scans (turn_to n t b s)) (Scans s) (meets_one p n (towards b t) (turn_to n t b s)) (meets_one_scans p n (towards b t) (turn_to n t b s) active) (λ u scans. scans_from s (turn_to n t b s) u refl refl refl scans)))
+    (on_then (Scans (turn_to n t b s)) (Scans s) (meets_one p n (towards b t) (turn_to n t b s))
+    (meets_one_scans p n (towards b t) (turn_to n t b s) active) (λ u scans. scans_from s (turn_to n t b s) u refl refl refl scans)))
 
 on_scans : (p : Parts) (n : ℕ) (t : Transaction) (two : Option (ℕ × ℕ)) (s : State) → s.lists.active ≡ Some n → OnGives (Scans s) (goes_on p n t two s)
 on_scans p n t None s active = meets_one_scans p n t s active
 on_scans p n t (Some pair) s active =
     tries_scans p n t pair.0 (λ u. tries p n t pair.1 (λ v. Gives (place_by n JoinsRetryList v)) u) s active
     (λ streams. on_then (Scans (with_streams streams s)) (Scans s) (tries p n t pair.1 (λ v. Gives (place_by n JoinsRetryList v)) (with_streams streams s))
-    (tries_scans p n t pair.1 (λ v. Gives (place_by n JoinsRetryList v)) (with_streams streams s) active (λ later. rests_scans (with_streams streams s) (with_streams later s) refl refl refl active))
+    (tries_scans p n t pair.1 (λ v. Gives (place_by n JoinsRetryList v)) (with_streams streams s) active
+    (λ later. rests_scans (with_streams streams s) (with_streams later s) refl refl refl active))
     (λ u scans. scans_from s (with_streams streams s) u refl refl refl scans))
   where
     rests_scans : (u v : State) → v.steps ≡ u.steps → v.ended ≡ u.ended → v.count ≡ u.count → v.lists.active ≡ Some n → Scans u (place_by n JoinsRetryList v)
-    rests_scans u v steps ended count active = scans_from u v (place_by n JoinsRetryList v) steps ended count (record { counted = counted_same v _ (placed-leaves n JoinsRetryList v); woken = placed_wakes n JoinsRetryList v active })
+    rests_scans u v steps ended count active =
+        scans_from u v (place_by n JoinsRetryList v) steps ended count
+        (record { counted = counted_same v _ (placed-leaves n JoinsRetryList v); woken = placed_wakes n JoinsRetryList v active })
 
 scan_scans : (p : Parts) (a : Option ℕ) (s : State) → s.lists.active ≡ a → OnGives (Scans s) (scan p a s)
 scan_scans p None s active = next_scans s s.lists.current_events
-scan_scans p (Some n) s active = on_bind (Scans s) (case_of (attributes_at n s.transactions)) (λ t. goes_on p n t (two_next p t) s) (λ t _. on_scans p n t (two_next p t) s active)
+scan_scans p (Some n) s active =
+    on_bind (Scans s) (case_of (attributes_at n s.transactions)) (λ t. goes_on p n t (two_next p t) s) (λ t _. on_scans p n t (two_next p t) s active)
 
 scanned : (p : Parts) (s t : State) → scan p s.lists.active s ≡ Gives t → Scans s t
 scanned p s t h = subst (OnGives (Scans s)) h (scan_scans p s.lists.active s refl)

@@ -47,7 +47,9 @@ use Rattle.gw_step.proofs.Calm.{trace-grows}
 abbrev Arrives : Parts → FlowEdge → Type 0
 Arrives p edge = IsSomeAnd (own_table p edge.target) (Fits edge.state)
 
-module _ (p : Parts) (flow : FlowHolds p (own_table p)) (c target : ℕ) (below : c < length p.entities) (may : MayBeEntered p target) (on : All (Arrives p) (members_move target (own_table p (targets.Chain c)))) (pays : (parameters : List (Option ℤ)) → Weighted p → IsSome (own_table p (targets.Chain c)) → weighs_there p target parameters ≤ chain_weight p c) where
+module _ (p : Parts) (flow : FlowHolds p (own_table p)) (c target : ℕ) (below : c < length p.entities) (may : MayBeEntered p target)
+    (on : All (Arrives p) (members_move target (own_table p (targets.Chain c))))
+    (pays : (parameters : List (Option ℤ)) → Weighted p → IsSome (own_table p (targets.Chain c)) → weighs_there p target parameters ≤ chain_weight p c) where
   -- what is known of the members of the chain fits the row of the block
   fits_on : (members : Row) → own_table p (targets.Chain c) ≡ Some members → IsSomeAnd (own_table p (targets.Block target)) (Fits members)
   fits_on members is = All-head (Arrives p) _ [] (subst (λ r. All (Arrives p) (members_move target r)) is on)
@@ -61,9 +63,11 @@ module _ (p : Parts) (flow : FlowHolds p (own_table p)) (c target : ℕ) (below 
       let here : 1 ≤ occurrences n (user_chain c s) = omega (arith, ap (occurrences n) is, same_number n n refl) in
       let bears = bearer_at s.transactions n t found in
       let placed : IsPlaced p bears.0 = subst (λ o. IfSome o (IsPlaced p)) bears.1 (ty.placed n) in
-      let members = some_of (own_table p (targets.Chain c)) (subst (λ place. IsSome (own_table p place)) (member_at p s ty c n here bears.0 bears.1) placed.row) in
+      let members = some_of (own_table p (targets.Chain c))
+      (subst (λ place. IsSome (own_table p place)) (member_at p s ty c n here bears.0 bears.1) placed.row) in
       let row = the_row (own_table p (targets.Block target)) members.0 (fits_on members.0 members.1) in
-      Then (Unlinked c target n t ns members.0 row.0 is found members.1 row.1 row.2 may below (λ weighted. pays (parameters_of n s) weighted (ap is_some members.1))) Done)
+      Then (Unlinked c target n t ns members.0 row.0 is found members.1 row.1 row.2 may below
+      (λ weighted. pays (parameters_of n s) weighted (ap is_some members.1))) Done)
       (λ none. Done)
 
   -- and so many, one after the other
@@ -85,8 +89,26 @@ module _ (p : Parts) (s : State) (n : ℕ) (t : Transaction) (k : ℕ) where
         borrowed = 1;
         left = 0;
         trace = Then (EntersLast n t (blocks.Link l) row acts.is (present s.lists n acts.active) (last_borrowed p s n t (blocks.Link l) row acts)) Done;
-        settles = λ weighted. omega (arith, weighs_next p s n t (blocks.Link l) row acts t t.next (one_plain p (record t { current = t.next }) (blocks.Link l) acts.is.block_is refl), (weighted.each_row t.next (blocks.Link l) row acts.is.block_is acts.is.row_is).chain);
-        may = (acts.active, record { t = last.its; row = row; members = members.0; found = last.found; row_is = last.row_is; members_is = members.1; fits = members.2; below = named_below p.entities (needs needed.Chain l.chain) [] acts.kinds.entities });
+        settles = λ weighted. omega (
+          arith,
+          weighs_next p s n t (blocks.Link l) row acts t t.next
+              (one_plain p (record t { current = t.next }) (blocks.Link l) acts.is.block_is refl),
+          (weighted.each_row t.next (blocks.Link l) row acts.is.block_is acts.is.row_is).chain,
+        );
+        may = (
+          acts.active,
+          record {
+            t = last.its;
+            row = row;
+            members = members.0;
+            found = last.found;
+            row_is = last.row_is;
+            members_is =
+                members.1;
+            fits = members.2;
+            below = named_below p.entities (needs needed.Chain l.chain) [] acts.kinds.entities;
+          },
+        );
         few_entries = omega arith;
         few_arrivals = omega arith;
         grows = omega (arith, sum-raised t.next s.entries);
@@ -100,8 +122,13 @@ module _ (p : Parts) (s : State) (n : ℕ) (t : Transaction) (k : ℕ) where
         let below = named_below p.entities (needs needed.Chain u.chain) [] acts.kinds.entities in
         let on = All-tail (Arrives p) (move (t.next + 1) row) (members_move u.target (own_table p (targets.Chain u.chain))) acts.flow.each_edge in
         let enters : Trace p k (made_in k) 0 s (suc k) (made_in k) 0 (enters_and_falls n t s) =
-        Then (goes p s n t (blocks.Unlink u) row acts k (made_in k) 0 0 t (t.next + 1) row s.entities (unchanged s t) (λ q. refl) (at_first _ _) may (balanced-nothing p n row s.entities) (falls_paid p s n t (blocks.Unlink u) row acts Falls [] refl (λ q. refl) 0)) Done in
-        let left = unlinked_traced p flow u.chain u.target below others on (λ parameters weighted some. let pays = (weighted.each_row t.next (blocks.Unlink u) row acts.is.block_is acts.is.row_is).chain in omega (arith, pays.1 some, ap (λ slope. slope_addition slope parameters) pays.0)) (taken_by u s) (suc k) (made_in k) (enters_and_falls n t s) (trace-keeps p flow enters acts.typed) in
+        Then (goes p s n t (blocks.Unlink u) row acts k (made_in k) 0 0 t (t.next + 1) row s.entities (unchanged s t) (λ q. refl)
+        (at_first _ _) may (balanced-nothing p n row s.entities) (falls_paid p s n t (blocks.Unlink u) row acts Falls [] refl (λ q. refl) 0)) Done in
+        let left = unlinked_traced p flow u.chain u.target below others on
+        (λ parameters weighted some. let pays =
+        (weighted.each_row t.next (blocks.Unlink u) row acts.is.block_is acts.is.row_is).chain in
+        omega (arith, pays.1 some, ap (λ slope. slope_addition slope parameters) pays.0)) (taken_by u s) (suc k) (made_in k)
+        (enters_and_falls n t s) (trace-keeps p flow enters acts.typed) in
         let made = entered_once p k s n _ (trace_on p enters left) (omega (arith, sum-raised t.next s.entries, trace-grows p left)) in
         safe_leads p (Enters p k s n) (t.next + 1) _ may
         (choose (Safe (Enters p k s n)) (taken_by u s == 0) _ _ (λ none. made) (λ some. safe_leads p (Enters p k s n) u.target _ others made))

@@ -29,7 +29,8 @@ use Rattle.gw_transactions.specs.Transactions.{LiveTransaction, with_attributes}
 use Rattle.gw_step.specs.Places.{place}
 use Rattle.gw_step.proofs.Attributes.{bearer_at, written_at}
 use Rattle.gw_step.proofs.Agreeing.{Balanced}
-use Rattle.gw_step.proofs.Traces.{IsAt, place-free, its_chain, Becomes, its_parameters, present, Rested, Paid, Settles, credited, Change, Goes, GoesWith, Trace, Done, Then, trace_on, placed_traced, its_row}
+use Rattle.gw_step.proofs.Traces.{IsAt, place-free, its_chain, Becomes, its_parameters, present, Rested, Paid, Settles, credited, Change, Goes}
+use Rattle.gw_step.proofs.Traces.{GoesWith, Trace, Done, Then, trace_on, placed_traced, its_row}
 use Rattle.gw_step.proofs.Within.{sum-raised}
 use Rattle.gw_step.proofs.Calm.{Moves, MakesEntry, Calms, Refuses, refused_calms, placed_grows}
 use Rattle.gw_step.proofs.Unstopped.{Safe, safe_bind, safe_test}
@@ -71,7 +72,8 @@ pub at_second : {A : Type 0} (x y : A) (xs : List A) → Contains (x ∷ y ∷ x
 at_second x y xs = (1, omega arith, refl)
 
 -- the rule of its own that a block has
-pub the_rule : (p : Parts) (b code : ℕ) (holds : Bool) (block : Block) (row : Row) → own_rules p block row ≡ (record { code = code; holds = holds }) ∷ [] → MayPass p (own_table p) b block row → holds ≡ true
+pub the_rule : (p : Parts) (b code : ℕ) (holds : Bool) (block : Block) (row : Row) → own_rules p block row
+    ≡ (record { code = code; holds = holds }) ∷ [] → MayPass p (own_table p) b block row → holds ≡ true
 the_rule p b code holds block row is pass =
     let one : Rule = record { code = code; holds = holds } in
     All-head (λ (rule : Rule). rule.holds ≡ true) one [] (subst (All (λ (rule : Rule). rule.holds ≡ true)) is (own_rules_hold p (own_table p) b block row pass))
@@ -102,8 +104,22 @@ pub record Enters (p : Parts) (k : ℕ) (s : State) (n : ℕ) (e : State × Plac
   pub grows : sum s.entries + 1 ≤ sum e.0.entries
 
 -- it entered, and stays active
-pub entered_once : (p : Parts) (k : ℕ) (s : State) (n : ℕ) (t : State) → Trace p k (made_in k) 0 s (suc k) (made_in k) 0 t → sum s.entries + 1 ≤ sum t.entries → Enters p k s n (t, StaysActive)
-entered_once p k s n t xs grows = record { entries = suc k; arrivals = made_in k; borrowed = 0; left = 0; trace = xs; may = tt; settles = refl; few_entries = omega arith; few_arrivals = omega arith; grows = grows }
+pub entered_once : (p : Parts) (k : ℕ) (s : State) (n : ℕ) (t : State) → Trace p k (made_in k) 0 s (suc k) (made_in k) 0 t → sum s.entries
+    + 1 ≤ sum t.entries → Enters p k s n (t, StaysActive)
+entered_once p k s n t xs grows =
+    record {
+      entries = suc k;
+      arrivals = made_in k;
+      borrowed = 0;
+      left = 0;
+      trace = xs;
+      may = tt;
+      settles = refl;
+      few_entries =
+          omega arith;
+      few_arrivals = omega arith;
+      grows = grows;
+    }
 
 -- then it is placed
 pub safe_placed : (p : Parts) (k : ℕ) (s : State) (n : ℕ) (o : Outcome (State × Placement)) → Safe (Enters p k s n) o → Safe (Reaches p k s) (then_placed n o)
@@ -120,8 +136,20 @@ safe_placed p k s n o h =
     })
 
 -- it was refused
-pub refused : (p : Parts) (k : ℕ) (s : State) (n : ℕ) (placement : Placement) → s.lists.active ≡ Some n → Refuses placement → Rested p n placement s → Settles p n placement s 0 0 → credited placement k ≤ suc k → Reaches p k s (place_by n placement s)
-refused p k s n placement active refuses may settles few = record { entries = credited placement k; arrivals = made_in k; borrowed = 0; trace = placed_traced p k (made_in k) 0 0 n placement s may settles; few_entries = few; few_arrivals = omega arith; moves = Calms (λ same few. refused_calms n s active placement refuses) }
+pub refused : (p : Parts) (k : ℕ) (s : State) (n : ℕ) (placement : Placement) → s.lists.active ≡ Some n → Refuses placement
+    → Rested p n placement s → Settles p n placement s 0 0 → credited placement k ≤ suc k → Reaches p k s (place_by n placement s)
+refused p k s n placement active refuses may settles few =
+    record {
+      entries = credited placement k;
+      arrivals = made_in k;
+      borrowed = 0;
+      trace =
+          placed_traced p k (made_in k) 0 0 n placement s may settles;
+      few_entries = few;
+      few_arrivals = omega arith;
+      moves =
+          Calms (λ same few. refused_calms n s active placement refuses);
+    }
 
 -- it enters its block as it is
 pub unchanged : (s : State) (t : Transaction) → Becomes s t t
@@ -144,20 +172,33 @@ module _ (p : Parts) (s : State) (n : ℕ) (t : Transaction) (block : Block) (ro
   as_before state q same = subst (λ kind. IsAsKnown kind (at None (parameters_of n s) q)) (sym same) (its_parameters p s acts.typed n t block row acts.is q)
 
   -- it goes along an edge
-  pub goes : (en ar c d : ℕ) (u : Transaction) (to : ℕ) (state : Row) (h : EntityStates) → Becomes s t u → Knows row state → Contains (edges p (own_table p) t.next block row) (move to state) → MayBeEntered p to → Balanced p n (Some row) (Some state) s.entities h
-      → Paid p (1 + weighs_there p to (parameters_of n s) + d) (weighs_there p t.next (parameters_of n s) + c) → Change p en ar c s (suc en) ar d (record (enter_next n u to s) { entities = h })
-  goes en ar c d u to state h same known along may balance pays = Goes n to t u block row state h acts.is same (present s.lists n acts.active) (λ q. as_before state q (known q)) along may balance (λ weighted. omega (arith, pays weighted, acts.weighs weighted))
+  pub goes : (en ar c d : ℕ) (u : Transaction) (to : ℕ) (state : Row) (h : EntityStates) → Becomes s t u → Knows row state
+      → Contains (edges p (own_table p) t.next block row) (move to state) → MayBeEntered p to → Balanced p n (Some row) (Some state) s.entities h
+      → Paid p (1 + weighs_there p to (parameters_of n s) + d) (weighs_there p t.next (parameters_of n s) + c)
+      → Change p en ar c s (suc en) ar d (record (enter_next n u to s) { entities = h })
+  goes en ar c d u to state h same known along may balance pays =
+      Goes n to t u block row state h acts.is same (present s.lists n acts.active) (λ q. as_before state q (known q)) along may balance
+      (λ weighted. omega (arith, pays weighted, acts.weighs weighted))
 
   -- it goes along an edge with a parameter that is set: of this one the edge's state knows what it is set to, and of each other one what the row knows of it
-  pub goes_with : (en ar : ℕ) (to : ℕ) (state : Row) (q : ℕ) (value : ℤ) → IsAsKnown (kind_of state q) (Some value) → ((r : ℕ) → r ≢ q → kind_of state r ≡ kind_of row r) → Contains (edges p (own_table p) t.next block row) (move to state) → MayBeEntered p to
-      → Balanced p n (Some row) (Some state) s.entities s.entities → Paid p (1 + weighs_there p to (put None (parameters_of n s) q (Some value)) + 0) (weighs_there p t.next (parameters_of n s) + 0) → Change p en ar 0 s (suc en) ar 0 (enter_next n t to (assign_to n q value s))
+  pub goes_with : (en ar : ℕ) (to : ℕ) (state : Row) (q : ℕ) (value : ℤ) → IsAsKnown (kind_of state q) (Some value)
+      → ((r : ℕ) → r ≢ q → kind_of state r ≡ kind_of row r) → Contains (edges p (own_table p) t.next block row) (move to state) → MayBeEntered p to
+      → Balanced p n (Some row) (Some state) s.entities s.entities
+      → Paid p (1 + weighs_there p to (put None (parameters_of n s) q (Some value)) + 0)
+      (weighs_there p t.next (parameters_of n s) + 0) → Change p en ar 0 s (suc en) ar 0 (enter_next n t to (assign_to n q value s))
   goes_with en ar to state q value here others along may balance pays =
-      GoesWith n to q value t block row state acts.is (present s.lists n acts.active) (by_entry None (parameters_of n s) q (Some value) (λ r v. IsAsKnown (kind_of state r) v) here (λ r other. as_before state r (others r other))) along may balance (λ weighted. omega (arith, pays weighted, acts.weighs weighted))
+      GoesWith n to q value t block row state acts.is (present s.lists n acts.active)
+      (by_entry None (parameters_of n s) q (Some value) (λ r v. IsAsKnown (kind_of state r) v) here
+      (λ r other. as_before state r (others r other))) along may balance (λ weighted. omega (arith, pays weighted, acts.weighs weighted))
 
   -- and stays active, and nothing else happens
-  pub just_goes : (k : ℕ) (to : ℕ) (state : Row) (h : EntityStates) → Knows row state → Contains (edges p (own_table p) t.next block row) (move to state) → MayBeEntered p to → Balanced p n (Some row) (Some state) s.entities h
-      → Paid p (1 + weighs_there p to (parameters_of n s) + 0) (weighs_there p t.next (parameters_of n s) + 0) → Enters p k s n (record (enter_next n t to s) { entities = h }, StaysActive)
-  just_goes k to state h known along may balance pays = entered_once p k s n _ (Then (goes k (made_in k) 0 0 t to state h (unchanged s t) known along may balance pays) Done) (omega (arith, sum-raised t.next s.entries))
+  pub just_goes : (k : ℕ) (to : ℕ) (state : Row) (h : EntityStates) → Knows row state
+      → Contains (edges p (own_table p) t.next block row) (move to state) → MayBeEntered p to → Balanced p n (Some row) (Some state) s.entities h
+      → Paid p (1 + weighs_there p to (parameters_of n s) + 0) (weighs_there p t.next (parameters_of n s) + 0)
+      → Enters p k s n (record (enter_next n t to s) { entities = h }, StaysActive)
+  just_goes k to state h known along may balance pays =
+      entered_once p k s n _ (Then (goes k (made_in k) 0 0 t to state h (unchanged s t) known along may balance pays) Done)
+      (omega (arith, sum-raised t.next s.entries))
 
   -- what its row says of an owner, and what is inside at least
   pub owner_as : (f : ℕ) → is_owned_by n (at idle s.entities.facilities f) ≡ owns row f
@@ -172,49 +213,79 @@ module _ (p : Parts) (s : State) (n : ℕ) (t : Transaction) (block : Block) (ro
         its = with_attributes last bears.0;
         found = written_at s.transactions n last bears.0 bears.1;
         place_is = place-free (with_attributes last bears.0) last (its_chain (at None s.transactions n) bears.0 None bears.1 acts.is.free) refl;
-        row_is = ap (own_table p) (place-free (with_attributes last bears.0) last (its_chain (at None s.transactions n) bears.0 None bears.1 acts.is.free) refl) ∙ acts.is.row_is;
+        row_is = ap (own_table p)
+            (place-free (with_attributes last bears.0) last (its_chain (at None s.transactions n) bears.0 None bears.1 acts.is.free) refl) ∙ acts.is.row_is;
       }
 
   -- it enters its block and goes on as u to a block, and has one next block: it weighs what that weighs
-  pub weighs_next : (u : Transaction) (to : ℕ) → two_next p (record u { current = u.next; next = to }) ≡ None → weight_in p (at None (enter_next n u to s).transactions n) ≡ weighs_there p to (parameters_of n s)
+  pub weighs_next : (u : Transaction) (to : ℕ) → two_next p (record u { current = u.next; next = to }) ≡ None
+      → weight_in p (at None (enter_next n u to s).transactions n) ≡ weighs_there p to (parameters_of n s)
   weighs_next u to one =
       let bears = bearer_at s.transactions n t acts.is.found in
       let next : Transaction = record u { current = u.next; next = to } in
-      ap (weight_in p) (written_at s.transactions n next bears.0 bears.1) ∙ weighs_one p (with_attributes next bears.0) (its_chain (at None s.transactions n) bears.0 None bears.1 acts.is.free) one ∙ ap (weighs_there p to) (own_parameters s.transactions n bears.0 bears.1)
+      ap (weight_in p) (written_at s.transactions n next bears.0 bears.1)
+      ∙ weighs_one p (with_attributes next bears.0) (its_chain (at None s.transactions n) bears.0 None bears.1 acts.is.free) one
+      ∙ ap (weighs_there p to) (own_parameters s.transactions n bears.0 bears.1)
 
   -- it enters a block that gives a choice, and stays at it: it weighs what the heavier of the two weighs
-  pub weighs_choice : (pair : ℕ × ℕ) → choice_at t.next block ≡ Some pair → weight_in p (at None (enter_next n t t.next s).transactions n) ≡ heavier p pair (parameters_of n s)
+  pub weighs_choice : (pair : ℕ × ℕ) → choice_at t.next block ≡ Some pair → weight_in p (at None (enter_next n t t.next s).transactions n)
+      ≡ heavier p pair (parameters_of n s)
   weighs_choice pair is =
       let bears = bearer_at s.transactions n t acts.is.found in
       let last : Transaction = record t { current = t.next } in
-      ap (weight_in p) (written_at s.transactions n last bears.0 bears.1) ∙ weighs_two p (with_attributes last bears.0) pair (its_chain (at None s.transactions n) bears.0 None bears.1 acts.is.free) (two_here p last block pair refl acts.is.block_is is) ∙ ap (heavier p pair) (own_parameters s.transactions n bears.0 bears.1)
+      ap (weight_in p) (written_at s.transactions n last bears.0 bears.1)
+      ∙ weighs_two p (with_attributes last bears.0) pair (its_chain (at None s.transactions n) bears.0 None bears.1 acts.is.free)
+      (two_here p last block pair refl acts.is.block_is is) ∙ ap (heavier p pair) (own_parameters s.transactions n bears.0 bears.1)
 
   -- it enters its block and stays at it: it weighs no more than that
   weighs_still : Weighted p → weight_in p (at None (enter_next n t t.next s).transactions n) ≤ weighs_there p t.next (parameters_of n s)
   weighs_still weighted =
       let bears = bearer_at s.transactions n t acts.is.found in
       let last : Transaction = record t { current = t.next } in
-      let most = weighs_within p weighted (with_attributes last bears.0) block row (its_chain (at None s.transactions n) bears.0 None bears.1 acts.is.free) acts.is.block_is acts.is.row_is in
-      omega (arith, most, ap (weight_in p) (written_at s.transactions n last bears.0 bears.1), ap (weighs_there p t.next) (own_parameters s.transactions n bears.0 bears.1))
+      let most = weighs_within p weighted (with_attributes last bears.0) block row
+      (its_chain (at None s.transactions n) bears.0 None bears.1 acts.is.free) acts.is.block_is acts.is.row_is in
+      omega (
+        arith,
+        most,
+        ap (weight_in p) (written_at s.transactions n last bears.0 bears.1),
+        ap (weighs_there p t.next) (own_parameters s.transactions n bears.0 bears.1),
+      )
 
   -- the first of its ways is paid for
-  pub falls_paid : (way : Way) (es : List Exit) → exits_with (returns_read block row) block ≡ at_once way ∷ es → Makes block way (parameters_of n s) (parameters_of n s) → (c : ℕ) → Paid p (1 + weighs_there p (leads_to t.next way) (parameters_of n s) + c) (weighs_there p t.next (parameters_of n s) + c)
+  pub falls_paid : (way : Way) (es : List Exit) → exits_with (returns_read block row) block ≡ at_once way ∷ es
+      → Makes block way (parameters_of n s) (parameters_of n s) → (c : ℕ)
+      → Paid p (1 + weighs_there p (leads_to t.next way) (parameters_of n s) + c) (weighs_there p t.next (parameters_of n s) + c)
   falls_paid way es is = first_paid p t.next block row acts.is.block_is acts.is.row_is way es is (parameters_of n s) (parameters_of n s)
 
   -- and the second
-  pub other_paid : (e : Exit) (way : Way) (es : List Exit) → exits_with (returns_read block row) block ≡ e ∷ at_once way ∷ es → Makes block way (parameters_of n s) (parameters_of n s) → (c : ℕ) → Paid p (1 + weighs_there p (leads_to t.next way) (parameters_of n s) + c) (weighs_there p t.next (parameters_of n s) + c)
+  pub other_paid : (e : Exit) (way : Way) (es : List Exit) → exits_with (returns_read block row) block ≡ e ∷ at_once way ∷ es
+      → Makes block way (parameters_of n s) (parameters_of n s) → (c : ℕ)
+      → Paid p (1 + weighs_there p (leads_to t.next way) (parameters_of n s) + c) (weighs_there p t.next (parameters_of n s) + c)
   other_paid e way es is = second_paid p t.next block row acts.is.block_is acts.is.row_is e way es is (parameters_of n s) (parameters_of n s)
 
   -- and each of the two with a parameter that is set
-  pub falls_set_paid : (way : Way) (es : List Exit) → exits_with (returns_read block row) block ≡ at_once way ∷ es → (q : ℕ) (value : ℤ) → changed_parameter block ≡ Some q → Does (treatment block way) (height q (parameters_of n s)) (above value) → Paid p (1 + weighs_there p (leads_to t.next way) (put None (parameters_of n s) q (Some value)) + 0) (weighs_there p t.next (parameters_of n s) + 0)
-  falls_set_paid way es is q value sets does = first_paid p t.next block row acts.is.block_is acts.is.row_is way es is (parameters_of n s) (put None (parameters_of n s) q (Some value)) (set_makes block way q value (parameters_of n s) sets does) 0
+  pub falls_set_paid : (way : Way) (es : List Exit) → exits_with (returns_read block row) block ≡ at_once way ∷ es → (q : ℕ) (value : ℤ)
+      → changed_parameter block ≡ Some q → Does (treatment block way) (height q (parameters_of n s)) (above value)
+      → Paid p (1 + weighs_there p (leads_to t.next way) (put None (parameters_of n s) q (Some value)) + 0) (weighs_there p t.next (parameters_of n s) + 0)
+  falls_set_paid way es is q value sets does =
+      first_paid p t.next block row acts.is.block_is acts.is.row_is way es is (parameters_of n s)
+      (put None (parameters_of n s) q (Some value)) (set_makes block way q value (parameters_of n s) sets does) 0
 
-  pub other_set_paid : (e : Exit) (way : Way) (es : List Exit) → exits_with (returns_read block row) block ≡ e ∷ at_once way ∷ es → (q : ℕ) (value : ℤ) → changed_parameter block ≡ Some q → Does (treatment block way) (height q (parameters_of n s)) (above value) → Paid p (1 + weighs_there p (leads_to t.next way) (put None (parameters_of n s) q (Some value)) + 0) (weighs_there p t.next (parameters_of n s) + 0)
-  other_set_paid e way es is q value sets does = second_paid p t.next block row acts.is.block_is acts.is.row_is e way es is (parameters_of n s) (put None (parameters_of n s) q (Some value)) (set_makes block way q value (parameters_of n s) sets does) 0
+  pub other_set_paid : (e : Exit) (way : Way) (es : List Exit) → exits_with (returns_read block row) block ≡ e ∷ at_once way ∷ es
+      → (q : ℕ) (value : ℤ) → changed_parameter block ≡ Some q → Does (treatment block way) (height q (parameters_of n s)) (above value)
+      → Paid p (1 + weighs_there p (leads_to t.next way) (put None (parameters_of n s) q (Some value)) + 0) (weighs_there p t.next (parameters_of n s) + 0)
+  other_set_paid e way es is q value sets does =
+      second_paid p t.next block row acts.is.block_is acts.is.row_is e way es is (parameters_of n s)
+      (put None (parameters_of n s) q (Some value)) (set_makes block way q value (parameters_of n s) sets does) 0
 
   -- who enters its block for the last time pays the entry by the weight of its place
   pub last_paid : choice_at t.next block ≡ None → Paid p 1 (weight_in p (at None (enter_next n t t.next s).transactions n) + 0)
-  last_paid plain weighted = omega (arith, weighs_next t t.next (one_plain p (record t { current = t.next }) block acts.is.block_is plain), weighted.least t.next block acts.is.block_is)
+  last_paid plain weighted =
+      omega (
+        arith,
+        weighs_next t t.next (one_plain p (record t { current = t.next }) block acts.is.block_is plain),
+        weighted.least t.next block acts.is.block_is,
+      )
 
   -- the entry itself is borrowed until then
   pub last_borrowed : Paid p (1 + weight_in p (at None (enter_next n t t.next s).transactions n) + 0) (weight_in p (at None s.transactions n) + 1)

@@ -2,7 +2,8 @@
 use Rattle.gw_rules.specs.Kinds.{block_at, is_none_or, has_good_constants}
 use Rattle.gw_operands.specs.Environment.{Environment}
 use Rattle.gw_transactions.specs.Transactions.{LiveTransaction, live_count}
-use Rattle.std.proofs.Common.{false, ◌≡◌, ℕ, zero, suc, ◌+◌, ◌≤◌, ℤ, pos, ◌≤ℤ◌, ◌<ℤ◌, List, [], ◌∷◌, map, length, replicate, Option, Some, None, IfSome, refl, sym, ap, ◌∙◌, subst, arith, ◌<◌}
+use Rattle.std.proofs.Common.{false, ◌≡◌, ℕ, zero, suc, ◌+◌, ◌≤◌, ℤ, pos, ◌≤ℤ◌, ◌<ℤ◌, List, [], ◌∷◌, map, length, replicate, Option, Some, None}
+use Rattle.std.proofs.Common.{IfSome, refl, sym, ap, ◌∙◌, subst, arith, ◌<◌}
 use Rattle.std.specs.Prelude.{sum, int_le, nat_lt, IfSome, IsTrue}
 use Rattle.std.specs.List.{AllByRecursion}
 use Rattle.std.proofs.lemmas.Bool.{and_parts, ltb-true}
@@ -65,7 +66,8 @@ record Numbered (j : Job) (k : ℕ) (t : State) : Type 0 where
   conserved : AreConserved t.entities
 
 -- with the steps that are left, they bound a state
-bounds : (j : Job) (t : State) → Numbered j t.steps t → t.steps ≤ j.budget → (t.ended ≡ None → t.steps < j.budget) → (t.ended ≡ None → pos 0 <ℤ t.count) → IsWoken t → IsBounded j t
+bounds : (j : Job) (t : State) → Numbered j t.steps t → t.steps ≤ j.budget → (t.ended ≡ None → t.steps < j.budget)
+    → (t.ended ≡ None → pos 0 <ℤ t.count) → IsWoken t → IsBounded j t
 bounds j t n steps runs counts woken = record {
   steps = steps;
   runs = runs;
@@ -78,7 +80,9 @@ bounds j t n steps runs counts woken = record {
 }
 
 -- what one step keeps of them
-bounded_more : (j : Job) (s u : State) → IsBounded j s → s.ended ≡ None → IsCounted s u → IsWoken u → Numbered j (s.steps + 1) (within_budget j.budget (record u { steps = s.steps + 1 })) → IsBounded j (within_budget j.budget (record u { steps = s.steps + 1 }))
+bounded_more : (j : Job) (s u : State) → IsBounded j s → s.ended ≡ None → IsCounted s u → IsWoken u
+    → Numbered j (s.steps + 1) (within_budget j.budget (record u { steps = s.steps + 1 }))
+    → IsBounded j (within_budget j.budget (record u { steps = s.steps + 1 }))
 bounded_more j s u b runs c woken =
     by_budget (λ (v : State). Numbered j (s.steps + 1) v → IsBounded j v) j.budget (record u { steps = s.steps + 1 })
     (λ _ same n. bounds j _ n (omega (arith, b.runs runs)) (λ e. absurd (cc)) (λ e. absurd (cc)) (λ none. woken none))
@@ -92,7 +96,8 @@ bounded_ended j s end b runs =
       steps = omega (arith, b.runs runs);
       runs = λ e. absurd (cc);
       counts = λ e. absurd (cc);
-      numbers = within-ended bs es (s.steps + 1) (made_in (s.steps + 1)) s (within-more bs es s.steps (made_in s.steps) s b.numbers (s.steps + 1) (made_in (s.steps + 1)) (omega arith) (omega arith)) (s.steps + 1) (Some end);
+      numbers = within-ended bs es (s.steps + 1) (made_in (s.steps + 1)) s
+          (within-more bs es s.steps (made_in s.steps) s b.numbers (s.steps + 1) (made_in (s.steps + 1)) (omega arith) (omega arith)) (s.steps + 1) (Some end);
       limits = b.limits;
       live = b.live;
       conserved = b.conserved;
@@ -104,11 +109,16 @@ record Leads (j : Job) (s t : State) : Type 0 where
   bounded : IsBounded j t
   steps : t.steps ≡ s.steps + 1
 
-leads_from : (j : Job) (s t : State) (o : Outcome State) → IsBounded j s → s.ended ≡ None → scan j.parts s.lists.active s ≡ o → Numbered j (s.steps + 1) t → step_outcome j.budget s o ≡ Some t → Leads j s t
+leads_from : (j : Job) (s t : State) (o : Outcome State) → IsBounded j s → s.ended ≡ None → scan j.parts s.lists.active s ≡ o
+    → Numbered j (s.steps + 1) t → step_outcome j.budget s o ≡ Some t → Leads j s t
 leads_from j s t (Gives u) b runs is n h =
     let same = some_is _ t h in
     subst (Leads j s) same
-    (record { bounded = bounded_more j s u b runs (is_counted j.parts s u is) (is_woken j.parts s u is) (subst (Numbered j (s.steps + 1)) (sym same) n); steps = counts_more j.budget s u })
+    (record {
+      bounded = bounded_more j s u b runs (is_counted j.parts s u is) (is_woken j.parts s u is)
+          (subst (Numbered j (s.steps + 1)) (sym same) n);
+      steps = counts_more j.budget s u;
+    })
 leads_from j s t (EndsBy end) b runs is n h = subst (Leads j s) (some_is _ t h) (record { bounded = bounded_ended j s end b runs; steps = refl })
 leads_from j s t HasNoCase b runs is n h = absurd cc
 
@@ -118,7 +128,8 @@ numbered_step j s t r next =
     let x = reached_in_step j s.steps s t r.fits.checked (reached_states_are_well_typed j s.steps s r.fits.checked r.alone) next in
     let live = trace-live j.parts x.trace r.bounded.live in
     record {
-      numbers = within-more (length j.parts.blocks) (length j.parts.entities) x.entries x.arrivals t (trace-within j.parts x.trace r.bounded.numbers) (s.steps + 1) (made_in (s.steps + 1)) (omega (arith, x.few_entries)) (omega (arith, x.few_arrivals));
+      numbers = within-more (length j.parts.blocks) (length j.parts.entities) x.entries x.arrivals t
+          (trace-within j.parts x.trace r.bounded.numbers) (s.steps + 1) (made_in (s.steps + 1)) (omega (arith, x.few_entries)) (omega (arith, x.few_arrivals));
       limits = trace-limits j.parts x.trace r.bounded.limits;
       live = live;
       conserved = trace-conserves j.parts x.trace r.bounded.conserved;
@@ -126,7 +137,8 @@ numbered_step j s t r next =
 
 pub reached_more : (j : Job) (s t : State) → IsReached (record { job = j; state = s }) → s.ended ≡ None → Step j s t → IsReached (record { job = j; state = t })
 reached_more j s t r runs next =
-    let l = leads_from j s t (scan j.parts s.lists.active s) r.bounded runs refl (numbered_step j s t r next) (sym (step-scan j.parts j.budget s runs) ∙ next) in
+    let l = leads_from j s t (scan j.parts s.lists.active s) r.bounded runs refl (numbered_step j s t r next)
+    (sym (step-scan j.parts j.budget s runs) ∙ next) in
     record {
       alone = subst (λ (k : ℕ). Alone j k t) (sym l.steps) (one_more j s.steps s t r.alone next);
       fits = r.fits;
@@ -166,26 +178,31 @@ begun_more bs es count k l t le b = record {
   stir = b.stir;
 }
 
-begun_arrives : (bs es : ℕ) (count : ℤ) (k : ℕ) (s : State) (b : ℕ) (priority time : ℤ) (streams : List ℕ) → b ≡ suc k → b ≤ bs → pos 0 ≤ℤ time → KeepStreams s.streams streams → Begun bs es count k s → Begun bs es count (suc k) (arrives b priority time (with_streams streams s))
+begun_arrives : (bs es : ℕ) (count : ℤ) (k : ℕ) (s : State) (b : ℕ) (priority time : ℤ) (streams : List ℕ) → b ≡ suc k → b ≤ bs
+    → pos 0 ≤ℤ time → KeepStreams s.streams streams → Begun bs es count k s → Begun bs es count (suc k) (arrives b priority time (with_streams streams s))
 begun_arrives bs es count k s b priority time streams here block least keeps h = record {
-  within = within-arrives bs es 0 k (with_streams streams s) (within-streams bs es 0 k s h.within streams (keeps h.within.whole.streams)) b priority time block (rw h.clock least);
+  within = within-arrives bs es 0 k (with_streams streams s) (within-streams bs es 0 k s h.within streams (keeps h.within.whole.streams)) b
+      priority time block (rw h.clock least);
   made = omega (arith, h.made, length-put_next None s.transactions (Some (newcomer b priority s)));
   scheduled = omega (arith, h.scheduled, sum-raised b s.scheduled);
   clock = h.clock;
   steps = h.steps;
   counts = h.counts;
   first = by_entry 0 s.scheduled b (at 0 s.scheduled b + 1) (λ c n. n ≤ 1) (omega (arith, h.none b (omega (arith, here)))) (λ c apart. h.first c);
-  none = by_entry 0 s.scheduled b (at 0 s.scheduled b + 1) (λ c n. suc k < c → n ≡ 0) (λ above. absurd (omega (arith, here, above))) (λ c apart above. h.none c (omega (arith, above)));
+  none = by_entry 0 s.scheduled b (at 0 s.scheduled b + 1) (λ c n. suc k < c → n ≡ 0) (λ above. absurd (omega (arith, here, above)))
+      (λ c apart above. h.none c (omega (arith, above)));
   live = omega (arith, h.live, written-live s.transactions (length s.transactions) (Some (newcomer b priority s)));
   conserved = h.conserved;
   stir = h.stir;
 }
 
-first-later : (p : Parts) → IsSound p → (g : Generate) (s : State) (o : Option ℤ) → s.clock ≡ pos 0 → IfSome o (λ time. pos 0 ≤ℤ time) → ((env : Environment) → AreRead p env (g.interval.mean ∷ g.interval.half ∷ [])) → OnGives (IsDrawn (pos 0) s.streams) (first_moment p g s o)
+first-later : (p : Parts) → IsSound p → (g : Generate) (s : State) (o : Option ℤ) → s.clock ≡ pos 0 → IfSome o (λ time. pos 0 ≤ℤ time)
+    → ((env : Environment) → AreRead p env (g.interval.mean ∷ g.interval.half ∷ [])) → OnGives (IsDrawn (pos 0) s.streams) (first_moment p g s o)
 first-later p sound g s (Some time) clock least read = record { later = least; keeps = λ h. h }
 first-later p sound g s None clock least read =
     let env = environment_of_next g.priority s in
-    subst (λ c. OnGives (IsDrawn c s.streams) (drawn_moment p env g.interval s.clock s.streams)) clock (given (IsDrawn s.clock s.streams) _ (safe_drawn p sound env g.interval s.clock s.streams (read env)))
+    subst (λ c. OnGives (IsDrawn c s.streams) (drawn_moment p env g.interval s.clock s.streams)) clock
+    (given (IsDrawn s.clock s.streams) _ (safe_drawn p sound env g.interval s.clock s.streams (read env)))
 
 -- a block with which a job may begin: its operands fit, and if it is a GENERATE its interval asks for no parameter
 record Begins (p : Parts) (block : Block) : Type 0 where
@@ -193,22 +210,27 @@ record Begins (p : Parts) (block : Block) : Type 0 where
   interval : (g : Generate) → block ≡ blocks.Generate g → (env : Environment) → AreRead p env (g.interval.mean ∷ g.interval.half ∷ [])
 
 module _ (p : Parts) (sound : IsSound p) (bs es : ℕ) (count : ℤ) where
-  first_begins : (b : ℕ) (block : Block) (k : ℕ) (s : State) → b ≡ suc k → b ≤ bs → Begins p block → Begun bs es count k s → OnGives (Begun bs es count (suc k)) (first_arrival p b block s)
+  first_begins : (b : ℕ) (block : Block) (k : ℕ) (s : State) → b ≡ suc k → b ≤ bs → Begins p block → Begun bs es count k s
+      → OnGives (Begun bs es count (suc k)) (first_arrival p b block s)
   first_begins b block k s here below fits h =
       by_arrival (λ x. Begins p x → OnGives (Begun bs es count (suc k)) (first_arrival p b x s))
       (λ g begins.
-      on_both (IsDrawn (pos 0) s.streams) (Begun bs es count (suc k)) (first_moment p g s g.first) _ (first-later p sound g s g.first h.clock begins.operands (begins.interval g refl))
+      on_both (IsDrawn (pos 0) s.streams) (Begun bs es count (suc k)) (first_moment p g s g.first) _
+      (first-later p sound g s g.first h.clock begins.operands (begins.interval g refl))
       (λ d drawn. begun_arrives bs es count k s b g.priority d.0 d.1 here below drawn.later drawn.keeps h))
       (λ x none _. subst (OnGives (Begun bs es count (suc k))) (sym (none p b s)) (begun_more bs es count k (suc k) s (omega arith) h))
       block fits
 
-  firsts_begin : (b : ℕ) (xs : List Block) (k : ℕ) (s : State) → b ≡ suc k → b + length xs ≤ suc bs → AllByRecursion (Begins p) xs → Begun bs es count k s → OnGives (Begun bs es count (length xs + k)) (first_arrivals p b xs s)
+  firsts_begin : (b : ℕ) (xs : List Block) (k : ℕ) (s : State) → b ≡ suc k → b + length xs ≤ suc bs → AllByRecursion (Begins p) xs
+      → Begun bs es count k s → OnGives (Begun bs es count (length xs + k)) (first_arrivals p b xs s)
   unfolding first_arrivals
   firsts_begin b [] k s here below fits h = begun_more bs es count k (length {A = Block} [] + k) s (omega arith) h
   firsts_begin b (x ∷ xs) k s here below fits h =
       let e : length xs + suc k ≡ suc (length xs) + k = omega arith in
-      on_both (Begun bs es count (suc k)) (Begun bs es count (suc (length xs) + k)) (first_arrival p b x s) (first_arrivals p (b + 1) xs) (first_begins b x k s here (omega arith) fits.0 h)
-      (λ u more. subst (λ l. OnGives (Begun bs es count l) (first_arrivals p (b + 1) xs u)) e (firsts_begin (b + 1) xs (suc k) u (omega (arith, here)) (omega arith) fits.1 more))
+      on_both (Begun bs es count (suc k)) (Begun bs es count (suc (length xs) + k)) (first_arrival p b x s) (first_arrivals p (b + 1) xs)
+      (first_begins b x k s here (omega arith) fits.0 h)
+      (λ u more. subst (λ l. OnGives (Begun bs es count l) (first_arrivals p (b + 1) xs u)) e
+      (firsts_begin (b + 1) xs (suc k) u (omega (arith, here)) (omega arith) fits.1 more))
 
 -- a table of one value has it at each number, and as its default
 at-map_any : {X Y : Type 0} (xs : List X) (f : X → Y) (d : Y) (k : ℕ) → ((x : X) → f x ≡ d) → at d (map f xs) k ≡ d
@@ -287,7 +309,8 @@ within_limit None k h some = tt
 within_limit (Some most) k h some = omega (arith, h, ltb-true 0 most some)
 
 -- a state with as many arrivals as blocks, and no steps
-begun_bounded : (j : Job) (k : ℕ) (t : State) (end : Option End) → JobFits j → k ≤ 4096 → Begun (length j.parts.blocks) (length j.parts.entities) (pos j.count) k t → IsBounded j (record t { ended = end })
+begun_bounded : (j : Job) (k : ℕ) (t : State) (end : Option End) → JobFits j → k ≤ 4096
+    → Begun (length j.parts.blocks) (length j.parts.entities) (pos j.count) k t → IsBounded j (record t { ended = end })
 begun_bounded j k t end fits few b =
     let w = within-ended (length j.parts.blocks) (length j.parts.entities) 0 k t b.within t.steps end in
     let live : AreFewLive t.transactions = record { live = omega (arith, b.live, few) } in
@@ -296,8 +319,22 @@ begun_bounded j k t end fits few b =
       runs = λ _. omega (arith, b.steps, fits.budget_least);
       counts = λ _. rw b.counts (omega (arith, ints, fits.count_least));
       numbers = subst (λ n. IsWithin (length j.parts.blocks) (length j.parts.entities) n (made_in n) (record t { ended = end })) (sym b.steps)
-          (record { entries = w.entries; entity_entries = w.entity_entries; made = omega (arith, b.made, few); scheduled = omega (arith, b.scheduled, few); marked = w.marked; whole = w.whole; clock = w.clock; future = w.future });
-      limits = record { arrivals = λ c g is. within_limit g.limit (at 0 t.scheduled c) (b.first c) (and_parts (is_none_or g.first (int_le (pos 0))) (is_none_or g.limit (nat_lt 0)) (constants c g is)).1 };
+          (record {
+            entries = w.entries;
+            entity_entries = w.entity_entries;
+            made = omega (arith, b.made, few);
+            scheduled =
+                omega (arith, b.scheduled, few);
+            marked = w.marked;
+            whole = w.whole;
+            clock = w.clock;
+            future = w.future;
+          });
+      limits = record {
+        arrivals =
+            λ c g is. within_limit g.limit (at 0 t.scheduled c) (b.first c)
+            (and_parts (is_none_or g.first (int_le (pos 0))) (is_none_or g.limit (nat_lt 0)) (constants c g is)).1;
+      };
       live = live;
       conserved = b.conserved;
       woken = λ _. b.stir;
@@ -311,11 +348,14 @@ record Starts (j : Job) (s : State) : Type 0 where
   bounded : IsBounded j s
   steps : s.steps ≡ 0
 
-starts_from : (j : Job) (k : ℕ) (s : State) (o : Outcome State) → JobFits j → k ≤ 4096 → OnGives (Begun (length j.parts.blocks) (length j.parts.entities) (pos j.count) k) o → start_outcome (nothing j.parts j.count j.streams) o ≡ Some s → Starts j s
+starts_from : (j : Job) (k : ℕ) (s : State) (o : Outcome State) → JobFits j → k ≤ 4096
+    → OnGives (Begun (length j.parts.blocks) (length j.parts.entities) (pos j.count) k) o
+    → start_outcome (nothing j.parts j.count j.streams) o ≡ Some s → Starts j s
 starts_from j k s (Gives t) fits few b is = subst (Starts j) (some_is t s is) (record { bounded = begun_bounded j k t t.ended fits few b; steps = b.steps })
 starts_from j k s (EndsBy end) fits few b is =
     let none : State = nothing j.parts j.count j.streams in
-    subst (Starts j) (some_is (record none { ended = Some end }) s is) (record { bounded = begun_bounded j 0 none (Some end) fits (omega arith) (nothing_begun j fits); steps = refl })
+    subst (Starts j) (some_is (record none { ended = Some end }) s is)
+    (record { bounded = begun_bounded j 0 none (Some end) fits (omega arith) (nothing_begun j fits); steps = refl })
 starts_from j k s HasNoCase fits few b is = absurd cc
 
 alone_at_start : (j : Job) (s : State) → start_of j ≡ Some s → Alone j 0 s
@@ -329,7 +369,8 @@ reached_first j s fits is =
     let fit = blocks_fit j.parts fits.checked fits.spelled in
     let sound = sound_of j.parts fits.checked in
     let read = arrival_read j.parts sound.entities (kinds_of j.parts fits.checked) (flow_of j.parts fits.checked) in
-    let begins = all-blocks (Begins j.parts) bs (λ i block at. record { operands = fit.operands (suc i) block at; interval = λ g same. read (suc i) g (at ∙ ap Some same) }) in
+    let begins = all-blocks (Begins j.parts) bs
+    (λ i block at. record { operands = fit.operands (suc i) block at; interval = λ g same. read (suc i) g (at ∙ ap Some same) }) in
     let b = firsts_begin j.parts sound (length bs) (length j.parts.entities) (pos j.count) 1 bs 0 n (omega arith) (omega arith) begins (nothing_begun j fits) in
     let starts = starts_from j (length bs + 0) s (first_arrivals j.parts 1 bs n) fits (omega (arith, fit.few)) b is in
     record {

@@ -4,8 +4,10 @@ use Rattle.gw_rules.specs.Exits.{takes_time}
 use Rattle.gw_rules.specs.Weights.{chain_weight}
 use Rattle.gw_rules.specs.WeightsLaws.{Weighted}
 use Rattle.gw_step.specs.Weight.{weighs_there, weight_in}
-use Rattle.gw_transactions.specs.Transactions.{LiveTransaction, made_with, with_attributes, with_parameter, with_chain, chain_of, attributes_at, put_attributes, put_parameter, put_chain, live_count}
-use Rattle.std.proofs.Common.{◌≡◌, ℕ, suc, ◌+◌, ◌<◌, ◌≤◌, ◌≤ℤ◌, ℤ, pos, ◌-ℤ◌, List, [], ◌∷◌, length, map, Option, Some, None, Bool, true, false, is_some, if◌then◌else◌, ◌==◌, refl, sym, ap, ◌∙◌, subst, arith, inl, inr, IsSome, option_map}
+use Rattle.gw_transactions.specs.Transactions.{LiveTransaction, made_with, with_attributes, with_parameter, with_chain, chain_of, attributes_at}
+use Rattle.gw_transactions.specs.Transactions.{put_attributes, put_parameter, put_chain, live_count}
+use Rattle.std.proofs.Common.{◌≡◌, ℕ, suc, ◌+◌, ◌<◌, ◌≤◌, ◌≤ℤ◌, ℤ, pos, ◌-ℤ◌, List, [], ◌∷◌, length, map, Option, Some, None, Bool, true, false}
+use Rattle.std.proofs.Common.{is_some, if◌then◌else◌, ◌==◌, refl, sym, ap, ◌∙◌, subst, arith, inl, inr, IsSome, option_map}
 use Rattle.std.specs.Prelude.{◌<ℤ◌, IsSomeAnd, Contains, unsigned_abs, sum_by, IfSome, IsTrue, nat_le, ◌&&◌, ◌-◌, ◌++◌, All}
 use Rattle.std.specs.List.{find}
 use Rattle.gw_members.specs.Firsts.{without_first, with_first_changed}
@@ -41,13 +43,19 @@ use Rattle.gw_entities.specs.Facility.{idle, is_idle, is_owned_by, facility_afte
 use Rattle.gw_entities.specs.Storage as storages
 use Rattle.gw_step.specs.declared.ends.End.{End}
 use Rattle.gw_step.specs.declared.placement.Placement.{Placement}
-use Rattle.gw_step.specs.declared.placement.Placement.TheVariants.{StaysActive, RestsUntil, JoinsDelayList, JoinsRetryList, RestsAhead, RestsBehind, AwaitsSet, JoinsChain, LeavesModel}
+use Rattle.gw_step.specs.declared.placement.Placement.TheVariants.{StaysActive, RestsUntil, JoinsDelayList, JoinsRetryList, RestsAhead, RestsBehind}
+use Rattle.gw_step.specs.declared.placement.Placement.TheVariants.{AwaitsSet, JoinsChain, LeavesModel}
 use Rattle.gw_step.specs.Placing.{placed_at, place_by}
 use Rattle.gw_step.specs.Turning.{turn_to}
 use Rattle.gw_step.specs.State.{FutureEvent, Assembly, Lists, EntityStates, State, with_streams, priority_of, delay_list, user_chain, without}
-use Rattle.gw_step.specs.Changes.{newcomer, copy_to, rests_ahead, rests_behind, awaits_set, is_of, assemble_all, one_fewer, come_to, joins_chain, leaves_chain, enter_next, assign_to, destroy, arrives, rests_until, waits_for, retries, called_from, wake, count_down, time_passes, clock_moves}
+use Rattle.gw_step.specs.Changes.{newcomer, copy_to, rests_ahead, rests_behind, awaits_set, is_of, assemble_all, one_fewer, come_to, joins_chain}
+use Rattle.gw_step.specs.Changes.{leaves_chain, enter_next, assign_to, destroy, arrives, rests_until, waits_for, retries, called_from, wake}
+use Rattle.gw_step.specs.Changes.{count_down, time_passes, clock_moves}
 use Rattle.gw_step.specs.Residence.{EachResidesOnce, occurrences, active_numbers, occurrences_in}
-use Rattle.gw_step.proofs.Residence.{one_if, at_most_one, same_number, other_number, alone, occurrences-one, occurrences-joined, occurrences-without, occurrences-linked, resides-linked, resides-unlinked, resides-entered, resides-assigned, resides-destroyed, resides-rests, resides-arrives, resides-active, resides-clock, resides-waits, resides-called, resides-retries, resides-woken, resides-ahead, resides-behind, resides-copied, resides-awaits, resides-assembled, resides-come}
+use Rattle.gw_step.proofs.Residence.{one_if, at_most_one, same_number, other_number, alone, occurrences-one, occurrences-joined, occurrences-without}
+use Rattle.gw_step.proofs.Residence.{occurrences-linked, resides-linked, resides-unlinked, resides-entered, resides-assigned, resides-destroyed}
+use Rattle.gw_step.proofs.Residence.{resides-rests, resides-arrives, resides-active, resides-clock, resides-waits, resides-called, resides-retries}
+use Rattle.gw_step.proofs.Residence.{resides-woken, resides-ahead, resides-behind, resides-copied, resides-awaits, resides-assembled, resides-come}
 use Rattle.gw_step.proofs.Follows.{at-map_same, nothing-after}
 use Rattle.gw_step.specs.Places.{place, place_of, IsThere, row_of}
 use Rattle.gw_step.specs.Times.{parameters_of}
@@ -75,20 +83,24 @@ pub its_chain : (o : Option LiveTransaction) (u : LiveTransaction) (chain : Opti
 its_chain o u chain there is = sym (ap chain_of there) ∙ is
 
 -- so is the place of the transaction that is at one
-pub its_place : (p : Parts) (ts : List (Option LiveTransaction)) (n : ℕ) (t : Transaction) (block : Block) (row : Row) (is : IsAt p ts n t block row) → place (bearer_at ts n t is.found).0 ≡ targets.Block t.next
+pub its_place : (p : Parts) (ts : List (Option LiveTransaction)) (n : ℕ) (t : Transaction) (block : Block) (row : Row)
+    (is : IsAt p ts n t block row) → place (bearer_at ts n t is.found).0 ≡ targets.Block t.next
 its_place p ts n t block row is = let bears = bearer_at ts n t is.found in place-free bears.0 t (its_chain (at None ts n) bears.0 None bears.1 is.free) bears.2
 
 -- the row of its place
-pub its_row : (p : Parts) (ts : List (Option LiveTransaction)) (n : ℕ) (t : Transaction) (block : Block) (row : Row) → IsAt p ts n t block row → row_of p (at None ts n) ≡ Some row
+pub its_row : (p : Parts) (ts : List (Option LiveTransaction)) (n : ℕ) (t : Transaction) (block : Block) (row : Row)
+    → IsAt p ts n t block row → row_of p (at None ts n) ≡ Some row
 its_row p ts n t block row is = let bears = bearer_at ts n t is.found in ap (row_of p) bears.1 ∙ ap (own_table p) (its_place p ts n t block row is) ∙ is.row_is
 
 -- its parameters are what its row knows them to be
-pub its_parameters : (p : Parts) (s : State) → WellTyped p s → (n : ℕ) (t : Transaction) (block : Block) (row : Row) → IsAt p s.transactions n t block row → AreAsKnown (Some row) (parameters_of n s)
+pub its_parameters : (p : Parts) (s : State) → WellTyped p s → (n : ℕ) (t : Transaction) (block : Block) (row : Row)
+    → IsAt p s.transactions n t block row → AreAsKnown (Some row) (parameters_of n s)
 its_parameters p s ty n t block row is =
     let bears = bearer_at s.transactions n t is.found in
     let placed : IsPlaced p bears.0 = subst (λ o. IfSome o (IsPlaced p)) bears.1 (ty.placed n) in
     let row_is : own_table p (place bears.0) ≡ Some row = ap (own_table p) (its_place p s.transactions n t block row is) ∙ is.row_is in
-    subst (AreAsKnown (Some row)) (sym (ap (λ o. option_map_or (λ (x : LiveTransaction). x.parameters) o no_parameters) bears.1)) (subst (λ r. AreAsKnown r bears.0.parameters) row_is placed.parameters)
+    subst (AreAsKnown (Some row)) (sym (ap (λ o. option_map_or (λ (x : LiveTransaction). x.parameters) o no_parameters) bears.1))
+    (subst (λ r. AreAsKnown r bears.0.parameters) row_is placed.parameters)
 
 -- n is active, or on the current events chain
 abbrev pub IsPresent : Lists → ℕ → Type 0
@@ -155,40 +167,68 @@ Settles p n (JoinsChain l) s c d = Paid p (chain_weight p l.chain + d) (weight_i
 Settles p n LeavesModel s c d = Paid p d (weight_in p (at None s.transactions n) + c)
 Settles p n placement s c d = c ≡ d
 
--- the elementary changes. From so many entries, made or to come, and arrivals at most, to so many: an entry is one more, and a waiter has one to come. And from a credit to a credit: it grows by the weight that a state loses, and pays for entries and for what a state weighs more
+-- the elementary changes. From so many entries, made or to come, and arrivals at most, to so many: an entry is one
+-- more, and a waiter has one to come. And from a credit to a credit: it grows by the weight that a state loses, and
+-- pays for entries and for what a state weighs more
 pub data Change (p : Parts) : ℕ → ℕ → ℕ → State → ℕ → ℕ → ℕ → State → Type 0 where
   -- a transaction enters its block and goes along one of its edges, and what the entities hold is in balance with that
-  Goes : {en ar c d : ℕ} {s : State} (n to : ℕ) (t u : Transaction) (block : Block) (row state : Row) (h : EntityStates) → IsAt p s.transactions n t block row → Becomes s t u → IsPresent s.lists n → AreAsKnown (Some state) (parameters_of n s)
-      → Contains (edges p (own_table p) t.next block row) (move to state) → MayBeEntered p to → Balanced p n (Some row) (Some state) s.entities h → Paid p (1 + weighs_there p to (parameters_of n s) + d) (weight_in p (at None s.transactions n) + c) → Change p en ar c s (suc en) ar d (record (enter_next n u to s) { entities = h })
+  Goes : {en ar c d : ℕ} {s : State} (n to : ℕ) (t u : Transaction) (block : Block) (row state : Row) (h : EntityStates)
+      → IsAt p s.transactions n t block row → Becomes s t u → IsPresent s.lists n → AreAsKnown (Some state) (parameters_of n s)
+      → Contains (edges p (own_table p) t.next block row) (move to state) → MayBeEntered p to
+      → Balanced p n (Some row) (Some state) s.entities h
+      → Paid p (1 + weighs_there p to (parameters_of n s) + d) (weight_in p (at None s.transactions n) + c)
+      → Change p en ar c s (suc en) ar d (record (enter_next n u to s) { entities = h })
   -- a transaction enters its block, and stays at it: it goes nowhere from there, or has two next blocks from then on
-  EntersLast : {en ar c d : ℕ} {s : State} (n : ℕ) (t : Transaction) (block : Block) (row : Row) → IsAt p s.transactions n t block row → IsPresent s.lists n → Paid p (1 + weight_in p (at None (enter_next n t t.next s).transactions n) + d) (weight_in p (at None s.transactions n) + c) → Change p en ar c s (suc en) ar d (enter_next n t t.next s)
+  EntersLast : {en ar c d : ℕ} {s : State} (n : ℕ) (t : Transaction) (block : Block) (row : Row) → IsAt p s.transactions n t block row
+      → IsPresent s.lists n → Paid p (1 + weight_in p (at None (enter_next n t t.next s).transactions n) + d)
+      (weight_in p (at None s.transactions n) + c) → Change p en ar c s (suc en) ar d (enter_next n t t.next s)
   -- a transaction turns to a block to which an edge of its block leads, and enters nothing
-  Turns : {en ar c d : ℕ} {s : State} (n to : ℕ) (t : Transaction) (block : Block) (row : Row) → IsAt p s.transactions n t block row → IsPresent s.lists n → Contains (edges p (own_table p) t.next block row) (move to row) → MayBeEntered p to → Paid p (weighs_there p to (parameters_of n s) + d) (weight_in p (at None s.transactions n) + c) → Change p en ar c s en ar d (turn_to n t to s)
+  Turns : {en ar c d : ℕ} {s : State} (n to : ℕ) (t : Transaction) (block : Block) (row : Row) → IsAt p s.transactions n t block row
+      → IsPresent s.lists n → Contains (edges p (own_table p) t.next block row) (move to row) → MayBeEntered p to
+      → Paid p (weighs_there p to (parameters_of n s) + d) (weight_in p (at None s.transactions n) + c) → Change p en ar c s en ar d (turn_to n t to s)
   -- a parameter of a transaction is set, and it enters its block and goes along one of its edges, where the parameter is known to be what it is set to
-  GoesWith : {en ar c d : ℕ} {s : State} (n to q : ℕ) (value : ℤ) (t : Transaction) (block : Block) (row state : Row) → IsAt p s.transactions n t block row → IsPresent s.lists n → AreAsKnown (Some state) (put None (parameters_of n s) q (Some value))
-      → Contains (edges p (own_table p) t.next block row) (move to state) → MayBeEntered p to → Balanced p n (Some row) (Some state) s.entities s.entities → Paid p (1 + weighs_there p to (put None (parameters_of n s) q (Some value)) + d) (weight_in p (at None s.transactions n) + c) → Change p en ar c s (suc en) ar d (enter_next n t to (assign_to n q value s))
+  GoesWith : {en ar c d : ℕ} {s : State} (n to q : ℕ) (value : ℤ) (t : Transaction) (block : Block) (row state : Row)
+      → IsAt p s.transactions n t block row → IsPresent s.lists n → AreAsKnown (Some state) (put None (parameters_of n s) q (Some value))
+      → Contains (edges p (own_table p) t.next block row) (move to state) → MayBeEntered p to
+      → Balanced p n (Some row) (Some state) s.entities s.entities
+      → Paid p (1 + weighs_there p to (put None (parameters_of n s) q (Some value)) + d) (weight_in p (at None s.transactions n) + c)
+      → Change p en ar c s (suc en) ar d (enter_next n t to (assign_to n q value s))
   -- a transaction is scheduled to arrive at a GENERATE
-  Arrives : {en ar c : ℕ} {s : State} (b : ℕ) (g : Generate) (row : Row) (priority time : ℤ) → block_at p.blocks b ≡ Some (blocks.Generate g) → own_row p b ≡ Some row → is_empty row ≡ true → s.clock ≤ℤ time → (takes_time g.interval.mean g.interval.half ≡ true → s.clock <ℤ time) → is_owed g.limit (at 0 s.scheduled b) ≡ true → nat_le (live_count s.transactions + 1) 65536 ≡ true → Change p en ar c s en (suc ar) c (arrives b priority time s)
+  Arrives : {en ar c : ℕ} {s : State} (b : ℕ) (g : Generate) (row : Row) (priority time : ℤ) → block_at p.blocks b
+      ≡ Some (blocks.Generate g) → own_row p b ≡ Some row → is_empty row ≡ true → s.clock ≤ℤ time
+      → (takes_time g.interval.mean g.interval.half ≡ true → s.clock <ℤ time) → is_owed g.limit (at 0 s.scheduled b) ≡ true
+      → nat_le (live_count s.transactions + 1) 65536 ≡ true → Change p en ar c s en (suc ar) c (arrives b priority time s)
   -- a copy of a transaction is made, and goes along an edge of a block
-  Copied : {en ar c d : ℕ} {s : State} (n target b : ℕ) (t u : Transaction) (block : Block) (row state : Row) → attributes_at n s.transactions ≡ Some u → t.mark ≡ u.mark → AreAsKnown (Some state) (parameters_of n s) → block_at p.blocks b ≡ Some block → own_row p b ≡ Some row
-      → Contains (edges p (own_table p) b block row) (move target state) → MayBeEntered p target → state.facilities ≡ [] → state.units ≡ [] → live_count s.transactions + 1 ≤ 65536 → Paid p (weighs_there p target (parameters_of n s) + d) c → Change p en ar c s en (suc ar) d (copy_to n t target s)
+  Copied : {en ar c d : ℕ} {s : State} (n target b : ℕ) (t u : Transaction) (block : Block) (row state : Row)
+      → attributes_at n s.transactions ≡ Some u → t.mark ≡ u.mark → AreAsKnown (Some state) (parameters_of n s) → block_at p.blocks b
+      ≡ Some block → own_row p b ≡ Some row
+      → Contains (edges p (own_table p) b block row) (move target state) → MayBeEntered p target → state.facilities ≡ [] → state.units ≡ []
+      → live_count s.transactions + 1 ≤ 65536 → Paid p (weighs_there p target (parameters_of n s) + d) c
+      → Change p en ar c s en (suc ar) d (copy_to n t target s)
   -- the active transaction is placed
-  Rests : {en ar c d : ℕ} {s : State} (n : ℕ) (placement : Placement) → Rested p n placement s → Settles p n placement s c d → Change p en ar c s (credited placement en) ar d (placed_at n placement s)
+  Rests : {en ar c d : ℕ} {s : State} (n : ℕ) (placement : Placement) → Rested p n placement s → Settles p n placement s c d
+      → Change p en ar c s (credited placement en) ar d (placed_at n placement s)
   -- a waiter is called
-  Called : {en ar c : ℕ} {s : State} (e n : ℕ) → 1 ≤ occurrences n (delay_list e s) → e < length p.entities → Change p (suc en) ar c s en ar c (called_from e n s)
+  Called : {en ar c : ℕ} {s : State} (e n : ℕ) → 1 ≤ occurrences n (delay_list e s) → e < length p.entities
+      → Change p (suc en) ar c s en ar c (called_from e n s)
   -- the last of its set has come to an assembly
   Assembled : {en ar c : ℕ} {s : State} (a : Assembly) → find (is_of a.block a.set) s.lists.assemblies ≡ Some a → Change p en ar c s en ar c (assemble_all a s)
   -- another has come to an assembly, and more are to come
-  Comes : {en ar c : ℕ} {s : State} (a : Assembly) → find (is_of a.block a.set) s.lists.assemblies ≡ Some a → 2 ≤ a.missing → Change p en ar c s en ar c (come_to a s)
+  Comes : {en ar c : ℕ} {s : State} (a : Assembly) → find (is_of a.block a.set) s.lists.assemblies ≡ Some a → 2 ≤ a.missing
+      → Change p en ar c s en ar c (come_to a s)
   -- the first member of a user chain leaves it for a block, whose row the row of the chain fits
-  Unlinked : {en ar d : ℕ} {s : State} (c target n : ℕ) (t : Transaction) (ns : List ℕ) (members row : Row) → user_chain c s ≡ n ∷ ns → attributes_at n s.transactions ≡ Some t → own_table p (targets.Chain c) ≡ Some members → own_row p target ≡ Some row → Fits members row
-      → MayBeEntered p target → c < length p.entities → Paid p (weighs_there p target (parameters_of n s)) (chain_weight p c) → Change p en ar d s en ar d (leaves_chain c target n t s)
+  Unlinked : {en ar d : ℕ} {s : State} (c target n : ℕ) (t : Transaction) (ns : List ℕ) (members row : Row) → user_chain c s ≡ n ∷ ns
+      → attributes_at n s.transactions ≡ Some t → own_table p (targets.Chain c) ≡ Some members → own_row p target ≡ Some row → Fits members row
+      → MayBeEntered p target → c < length p.entities → Paid p (weighs_there p target (parameters_of n s)) (chain_weight p c)
+      → Change p en ar d s en ar d (leaves_chain c target n t s)
   -- the retry list is woken
   Woken : {en ar c : ℕ} {s : State} → Change p en ar c s en ar c (wake s)
   -- the first of the current events chain becomes active
-  Activates : {en ar c : ℕ} {s : State} (n : ℕ) (ns : List ℕ) → s.lists.active ≡ None → s.lists.current_events ≡ n ∷ ns → Change p en ar c s en ar c (record s { lists = record s.lists { active = Some n; current_events = ns } })
+  Activates : {en ar c : ℕ} {s : State} (n : ℕ) (ns : List ℕ) → s.lists.active ≡ None → s.lists.current_events ≡ n ∷ ns
+      → Change p en ar c s en ar c (record s { lists = record s.lists { active = Some n; current_events = ns } })
   -- the clock moves to the first future event
-  ClockMoves : {en ar c : ℕ} {s : State} (e : FutureEvent) (es : List FutureEvent) → s.lists.future_events ≡ e ∷ es → Change p en ar c s en ar c (clock_moves e.time s)
+  ClockMoves : {en ar c : ℕ} {s : State} (e : FutureEvent) (es : List FutureEvent) → s.lists.future_events ≡ e ∷ es
+      → Change p en ar c s en ar c (clock_moves e.time s)
   -- draws
   Draws : {en ar c : ℕ} {s : State} (streams : List ℕ) → KeepStreams s.streams streams → Change p en ar c s en ar c (with_streams streams s)
   -- the termination count falls
@@ -199,21 +239,26 @@ pub data Change (p : Parts) : ℕ → ℕ → ℕ → State → ℕ → ℕ → 
 -- some changes, one after the other
 pub data Trace (p : Parts) : ℕ → ℕ → ℕ → State → ℕ → ℕ → ℕ → State → Type 0 where
   Done : {en ar c : ℕ} {s : State} → Trace p en ar c s en ar c s
-  Then : {en ar c en' ar' c' en2 ar2 c2 : ℕ} {s t u : State} → Change p en ar c s en' ar' c' t → Trace p en' ar' c' t en2 ar2 c2 u → Trace p en ar c s en2 ar2 c2 u
+  Then : {en ar c en' ar' c' en2 ar2 c2 : ℕ} {s t u : State} → Change p en ar c s en' ar' c' t → Trace p en' ar' c' t en2 ar2 c2 u
+      → Trace p en ar c s en2 ar2 c2 u
 
-pub trace_on : (p : Parts) {en ar c en' ar' c' en2 ar2 c2 : ℕ} {s t u : State} → Trace p en ar c s en' ar' c' t → Trace p en' ar' c' t en2 ar2 c2 u → Trace p en ar c s en2 ar2 c2 u
+pub trace_on : (p : Parts) {en ar c en' ar' c' en2 ar2 c2 : ℕ} {s t u : State} → Trace p en ar c s en' ar' c' t
+    → Trace p en' ar' c' t en2 ar2 c2 u → Trace p en ar c s en2 ar2 c2 u
 trace_on p Done ys = ys
 trace_on p (Then x xs) ys = Then x (trace_on p xs ys)
 
 -- PLACED
 
 -- the transaction rests, where something stirred once the retry list was woken
-stirs_rests : (b : Bool) (p : Parts) (en ar c d n : ℕ) (placement : Placement) (s : State) → Rested p n placement s → Settles p n placement s c d → Settles p n placement (wake s) c d → Trace p en ar c s (credited placement en) ar d (placed_at n placement (if b then wake s else s))
+stirs_rests : (b : Bool) (p : Parts) (en ar c d n : ℕ) (placement : Placement) (s : State) → Rested p n placement s
+    → Settles p n placement s c d → Settles p n placement (wake s) c d
+    → Trace p en ar c s (credited placement en) ar d (placed_at n placement (if b then wake s else s))
 stirs_rests true p en ar c d n placement s may settles later = Then Woken (Then (Rests n placement may later) Done)
 stirs_rests false p en ar c d n placement s may settles later = Then (Rests n placement may settles) Done
 
 -- the one lemma on placements, for each block and each refusal
-pub placed_traced : (p : Parts) (en ar c d n : ℕ) (placement : Placement) (s : State) → Rested p n placement s → Settles p n placement s c d → Trace p en ar c s (credited placement en) ar d (place_by n placement s)
+pub placed_traced : (p : Parts) (en ar c d n : ℕ) (placement : Placement) (s : State) → Rested p n placement s
+    → Settles p n placement s c d → Trace p en ar c s (credited placement en) ar d (place_by n placement s)
 placed_traced p en ar c d n StaysActive s may settles = subst (λ e. Trace p en ar c s en ar e s) settles Done
 placed_traced p en ar c d n (RestsUntil time) s may settles = stirs_rests s.stir p en ar c d n (RestsUntil time) s may settles settles
 placed_traced p en ar c d n (JoinsDelayList e) s may settles = stirs_rests s.stir p en ar c d n (JoinsDelayList e) s may settles settles
@@ -230,7 +275,8 @@ most : (p : Parts) (ts : List (Option LiveTransaction)) (l : Lists) (g : EntityS
 most p ts l g ty n = omega (arith, ty.resides n, at_most_one (is_some (at None ts n)))
 
 -- who is present waits for nothing
-pub nowhere : (p : Parts) (ts : List (Option LiveTransaction)) (l : Lists) (g : EntityStates) → Agree p ts l g → (n : ℕ) → IsPresent l n → (e : ℕ) → occurrences n (at [] l.delay_lists e) ≡ 0
+pub nowhere : (p : Parts) (ts : List (Option LiveTransaction)) (l : Lists) (g : EntityStates) → Agree p ts l g → (n : ℕ) → IsPresent l n
+    → (e : ℕ) → occurrences n (at [] l.delay_lists e) ≡ 0
 nowhere p ts l g ty n here e = omega (arith, most p ts l g ty n, occurrences-one n l.delay_lists e, here)
 
 -- who is active is present
@@ -238,7 +284,8 @@ pub present : (l : Lists) (n : ℕ) → l.active ≡ Some n → IsPresent l n
 present l n is = omega (arith, ap (λ a. occurrences n (active_numbers a)) is, same_number n n refl)
 
 -- who resides on no user chain is a member of none
-pub free : (p : Parts) (ts : List (Option LiveTransaction)) (l : Lists) (g : EntityStates) → Agree p ts l g → (n : ℕ) → sum_by (occurrences n) l.user_chains ≡ 0 → chain_of (at None ts n) ≡ None
+pub free : (p : Parts) (ts : List (Option LiveTransaction)) (l : Lists) (g : EntityStates) → Agree p ts l g → (n : ℕ)
+    → sum_by (occurrences n) l.user_chains ≡ 0 → chain_of (at None ts n) ≡ None
 free p ts l g ty n none = by_chain (chain_of (at None ts n)) (λ c. ty.linked c n)
   where
     by_chain : (o : Option ℕ) → ((c : ℕ) → occurrences n (at [] l.user_chains c) ≡ one_if (is_member c o)) → o ≡ None
@@ -246,15 +293,18 @@ free p ts l g ty n none = by_chain (chain_of (at None ts n)) (λ c. ty.linked c 
     by_chain (Some c) h = absurd (omega (arith, none, h c, occurrences-one n l.user_chains c, same_number c c refl))
 
 -- so is who is present
-pub present_free : (p : Parts) (ts : List (Option LiveTransaction)) (l : Lists) (g : EntityStates) → Agree p ts l g → (n : ℕ) → IsPresent l n → chain_of (at None ts n) ≡ None
+pub present_free : (p : Parts) (ts : List (Option LiveTransaction)) (l : Lists) (g : EntityStates) → Agree p ts l g → (n : ℕ)
+    → IsPresent l n → chain_of (at None ts n) ≡ None
 present_free p ts l g ty n here = free p ts l g ty n (omega (arith, most p ts l g ty n, here))
 
 -- and who waits for an entity
-pub waiting_free : (p : Parts) (ts : List (Option LiveTransaction)) (l : Lists) (g : EntityStates) → Agree p ts l g → (e n : ℕ) → 1 ≤ occurrences n (at [] l.delay_lists e) → chain_of (at None ts n) ≡ None
+pub waiting_free : (p : Parts) (ts : List (Option LiveTransaction)) (l : Lists) (g : EntityStates) → Agree p ts l g → (e n : ℕ) → 1
+    ≤ occurrences n (at [] l.delay_lists e) → chain_of (at None ts n) ≡ None
 waiting_free p ts l g ty e n waits = free p ts l g ty n (omega (arith, most p ts l g ty n, waits, occurrences-one n l.delay_lists e))
 
 -- who resides on a user chain is a member of it
-pub member_of : (p : Parts) (ts : List (Option LiveTransaction)) (l : Lists) (g : EntityStates) → Agree p ts l g → (c n : ℕ) → 1 ≤ occurrences n (at [] l.user_chains c) → chain_of (at None ts n) ≡ Some c
+pub member_of : (p : Parts) (ts : List (Option LiveTransaction)) (l : Lists) (g : EntityStates) → Agree p ts l g → (c n : ℕ) → 1
+    ≤ occurrences n (at [] l.user_chains c) → chain_of (at None ts n) ≡ Some c
 member_of p ts l g ty c n here = by_chain (chain_of (at None ts n)) (ty.linked c n)
   where
     by_chain : (o : Option ℕ) → occurrences n (at [] l.user_chains c) ≡ one_if (is_member c o) → o ≡ Some c
@@ -266,12 +316,16 @@ member_of p ts l g ty c n here = by_chain (chain_of (at None ts n)) (ty.linked c
         ]
 
 -- so the chain is its place
-pub member_at : (p : Parts) (s : State) → WellTyped p s → (c n : ℕ) → 1 ≤ occurrences n (user_chain c s) → (u : LiveTransaction) → at None s.transactions n ≡ Some u → place u ≡ targets.Chain c
-member_at p s ty c n here u there = ap (λ d. place_of d u.attributes.next) (its_chain (at None s.transactions n) u (Some c) there (member_of p s.transactions s.lists s.entities ty c n here))
+pub member_at : (p : Parts) (s : State) → WellTyped p s → (c n : ℕ) → 1 ≤ occurrences n (user_chain c s) → (u : LiveTransaction)
+    → at None s.transactions n ≡ Some u → place u ≡ targets.Chain c
+member_at p s ty c n here u there =
+    ap (λ d. place_of d u.attributes.next) (its_chain (at None s.transactions n) u (Some c) there (member_of p s.transactions s.lists s.entities ty c n here))
 
 -- a fresh number waits for nothing
-fresh : (p : Parts) (ts : List (Option LiveTransaction)) (l : Lists) (g : EntityStates) → Agree p ts l g → (e : ℕ) → occurrences (length ts) (at [] l.delay_lists e) ≡ 0
-fresh p ts l g ty e = omega (arith, ty.resides (length ts), ap (λ o. one_if (is_some o)) (at_past None ts (length ts) (omega arith)), occurrences-one (length ts) l.delay_lists e)
+fresh : (p : Parts) (ts : List (Option LiveTransaction)) (l : Lists) (g : EntityStates) → Agree p ts l g → (e : ℕ)
+    → occurrences (length ts) (at [] l.delay_lists e) ≡ 0
+fresh p ts l g ty e = omega
+    (arith, ty.resides (length ts), ap (λ o. one_if (is_some o)) (at_past None ts (length ts) (omega arith)), occurrences-one (length ts) l.delay_lists e)
 
 -- WHAT IS KNOWN OF PARAMETERS
 
@@ -318,11 +372,14 @@ missing-without passes (x ∷ xs) h = by_test (passes x) (missing-without passes
     by_test false rest = All-cons IsMissing x (without_first passes xs) (All-head IsMissing x xs h) rest
 
 -- an assembly waits for one fewer
-missing-changed : (passes : Assembly → Bool) (xs : List Assembly) (a : Assembly) → find passes xs ≡ Some a → 2 ≤ a.missing → All IsMissing xs → All IsMissing (with_first_changed passes one_fewer xs)
+missing-changed : (passes : Assembly → Bool) (xs : List Assembly) (a : Assembly) → find passes xs ≡ Some a → 2 ≤ a.missing
+    → All IsMissing xs → All IsMissing (with_first_changed passes one_fewer xs)
 missing-changed passes [] a is more h = h
 missing-changed passes (x ∷ xs) a is more h = by_test (passes x) is (λ found. missing-changed passes xs a found more (All-tail IsMissing x xs h))
   where
-    by_test : (b : Bool) → (if b then Some x else find passes xs) ≡ Some a → (find passes xs ≡ Some a → All IsMissing (with_first_changed passes one_fewer xs)) → All IsMissing (if b then one_fewer x ∷ xs else x ∷ with_first_changed passes one_fewer xs)
+    by_test : (b : Bool) → (if b then Some x else find passes xs) ≡ Some a
+        → (find passes xs ≡ Some a → All IsMissing (with_first_changed passes one_fewer xs))
+        → All IsMissing (if b then one_fewer x ∷ xs else x ∷ with_first_changed passes one_fewer xs)
     by_test true is rest =
         let same : x ≡ a = cc in
         let left : 1 ≤ x.missing - 1 = omega (arith, more, ap (λ (y : Assembly). y.missing) same) in
@@ -342,92 +399,139 @@ pub the_row : (r : Option Row) (state : Row) → IsSomeAnd r (Fits state) → (r
 the_row None state h = absurd h
 the_row (Some row) state h = (row, refl, h)
 
-pub leads : (p : Parts) (b to : ℕ) (block : Block) (row state : Row) → MayPass p (own_table p) b block row → Contains (edges p (own_table p) b block row) (move to state) → Leads p to state
+pub leads : (p : Parts) (b to : ℕ) (block : Block) (row state : Row) → MayPass p (own_table p) b block row
+    → Contains (edges p (own_table p) b block row) (move to state) → Leads p to state
 leads p b to block row state pass along =
-    let found = the_row (own_row p to) state (All-contains (λ edge. IsSomeAnd (own_table p edge.target) (Fits edge.state)) (edges p (own_table p) b block row) (move to state) pass.each_edge along) in
+    let found = the_row (own_row p to) state
+    (All-contains (λ edge. IsSomeAnd (own_table p edge.target) (Fits edge.state)) (edges p (own_table p) b block row) (move to state)
+    pass.each_edge along) in
     record { row = found.0; is = found.1; fits = found.2 }
 
 there : (o : Option Block) → IsSomeAnd o (λ block. is_generate (Some block) ≡ false) → is_some o ≡ true
 there None h = absurd h
 there (Some block) h = refl
 
-pub storages-later : (time : ℕ) (xs : List Storage) (e : ℕ) → at (storages.vacant 0) (map (storages.storage_after time) xs) e ≡ storages.storage_after time (at (storages.vacant 0) xs e)
-storages-later time xs e = at-map_same (storages.storage_after time) (storages.vacant 0) xs e (ap (λ c. record (storages.vacant 0) { contents = c }) (nothing-after time))
+pub storages-later : (time : ℕ) (xs : List Storage) (e : ℕ) → at (storages.vacant 0) (map (storages.storage_after time) xs) e
+    ≡ storages.storage_after time (at (storages.vacant 0) xs e)
+storages-later time xs e =
+    at-map_same (storages.storage_after time) (storages.vacant 0) xs e (ap (λ c. record (storages.vacant 0) { contents = c }) (nothing-after time))
 
 module _ (p : Parts) (flow : FlowHolds p (own_table p)) where
   -- a transaction enters its block, and is at another place from then on
-  enters : (s : State) → WellTyped p s → (n to : ℕ) (t u : Transaction) (block : Block) (row next : Row) (h : EntityStates) → IsAt p s.transactions n t block row → IsPresent s.lists n → AreAsKnown (Some next) (parameters_of n s)
-      → IsSome (block_at p.blocks to) → own_row p to ≡ Some next → Balanced p n (Some row) (Some next) s.entities h → WellTyped p (record (enter_next n u to s) { entities = h })
+  enters : (s : State) → WellTyped p s → (n to : ℕ) (t u : Transaction) (block : Block) (row next : Row) (h : EntityStates)
+      → IsAt p s.transactions n t block row → IsPresent s.lists n → AreAsKnown (Some next) (parameters_of n s)
+      → IsSome (block_at p.blocks to) → own_row p to ≡ Some next → Balanced p n (Some row) (Some next) s.entities h
+      → WellTyped p (record (enter_next n u to s) { entities = h })
   enters s ty n to t u block row next h is here known there lands balance =
       let v : Transaction = record u { current = u.next; next = to } in
       let bears = bearer_at s.transactions n t is.found in
       let now : option_map (with_attributes v) (at None s.transactions n) ≡ Some (with_attributes v bears.0) = ap (option_map (with_attributes v)) bears.1 in
-      let goes_to : place (with_attributes v bears.0) ≡ targets.Block to = place-free (with_attributes v bears.0) v (its_chain (at None s.transactions n) bears.0 None bears.1 is.free) refl in
+      let goes_to : place (with_attributes v bears.0) ≡ targets.Block to =
+      place-free (with_attributes v bears.0) v (its_chain (at None s.transactions n) bears.0 None bears.1 is.free) refl in
       let its : own_table p (place (with_attributes v bears.0)) ≡ Some next = ap (own_table p) goes_to ∙ lands in
       agree-written p s.transactions s.lists s.entities ty s.lists h n (option_map (with_attributes v) (at None s.transactions n))
       (nowhere p s.transactions s.lists s.entities ty n here)
       (resides-entered n u to s ty.resides) refl refl
-      (linked-written p s.transactions s.lists s.entities ty s.lists n (option_map (with_attributes v) (at None s.transactions n)) refl (chain-attributes v (at None s.transactions n)))
-      (subst (λ o. IfSome o (IsPlaced p)) (sym now) (record { there = subst (IsThere p) (sym goes_to) there; row = ap is_some its; parameters = subst (λ r. AreAsKnown r bears.0.parameters) (sym its) (subst (AreAsKnown (Some next)) (ap (λ o. option_map_or (λ (x : LiveTransaction). x.parameters) o no_parameters) bears.1) known) }))
-      (subst (λ r. Balanced p n r (row_of p (option_map (with_attributes v) (at None s.transactions n))) s.entities h) (sym (its_row p s.transactions n t block row is))
+      (linked-written p s.transactions s.lists s.entities ty s.lists n (option_map (with_attributes v) (at None s.transactions n)) refl
+      (chain-attributes v (at None s.transactions n)))
+      (subst (λ o. IfSome o (IsPlaced p)) (sym now)
+      (record {
+        there = subst (IsThere p) (sym goes_to) there;
+        row = ap is_some its;
+        parameters =
+            subst (λ r. AreAsKnown r bears.0.parameters) (sym its)
+            (subst (AreAsKnown (Some next)) (ap (λ o. option_map_or (λ (x : LiveTransaction). x.parameters) o no_parameters) bears.1) known);
+      }))
+      (subst (λ r. Balanced p n r (row_of p (option_map (with_attributes v) (at None s.transactions n))) s.entities h)
+      (sym (its_row p s.transactions n t block row is))
       (subst (λ r. Balanced p n (Some row) r s.entities h) (sym (ap (row_of p) now ∙ its)) balance))
 
-  goes : (s : State) → WellTyped p s → (n to : ℕ) (t u : Transaction) (block : Block) (row state : Row) (h : EntityStates) → IsAt p s.transactions n t block row → IsPresent s.lists n → AreAsKnown (Some state) (parameters_of n s)
-      → Contains (edges p (own_table p) t.next block row) (move to state) → MayBeEntered p to → Balanced p n (Some row) (Some state) s.entities h → WellTyped p (record (enter_next n u to s) { entities = h })
+  goes : (s : State) → WellTyped p s → (n to : ℕ) (t u : Transaction) (block : Block) (row state : Row) (h : EntityStates)
+      → IsAt p s.transactions n t block row → IsPresent s.lists n → AreAsKnown (Some state) (parameters_of n s)
+      → Contains (edges p (own_table p) t.next block row) (move to state) → MayBeEntered p to
+      → Balanced p n (Some row) (Some state) s.entities h → WellTyped p (record (enter_next n u to s) { entities = h })
   goes s ty n to t u block row state h is here known along may balance =
       let lead = leads p t.next to block row state (flow.each_row t.next block row is.block_is is.row_is) along in
-      enters s ty n to t u block row lead.row h is here (known_on state lead.row (parameters_of n s) lead.fits known) (there (block_at p.blocks to) may) lead.is (balanced-fits p n (Some row) state lead.row s.entities h balance lead.fits)
+      enters s ty n to t u block row lead.row h is here (known_on state lead.row (parameters_of n s) lead.fits known)
+      (there (block_at p.blocks to) may) lead.is (balanced-fits p n (Some row) state lead.row s.entities h balance lead.fits)
 
   -- a transaction that turns to a block enters nothing, and is at that block's row
-  pub turns : (s : State) → WellTyped p s → (n to : ℕ) (t : Transaction) (block : Block) (row : Row) → IsAt p s.transactions n t block row → IsPresent s.lists n → Contains (edges p (own_table p) t.next block row) (move to row) → MayBeEntered p to → WellTyped p (turn_to n t to s)
-  turns s ty n to t block row is here along may = goes s ty n to t (record t { next = t.current }) block row row s.entities is here (its_parameters p s ty n t block row is) along may (balanced-nothing p n row s.entities)
+  pub turns : (s : State) → WellTyped p s → (n to : ℕ) (t : Transaction) (block : Block) (row : Row) → IsAt p s.transactions n t block row
+      → IsPresent s.lists n → Contains (edges p (own_table p) t.next block row) (move to row) → MayBeEntered p to → WellTyped p (turn_to n t to s)
+  turns s ty n to t block row is here along may =
+      goes s ty n to t (record t { next = t.current }) block row row s.entities is here (its_parameters p s ty n t block row is) along may
+      (balanced-nothing p n row s.entities)
 
   -- a parameter of it is set besides
-  goes_with : (s : State) → WellTyped p s → (n to q : ℕ) (value : ℤ) (t : Transaction) (block : Block) (row state : Row) → IsAt p s.transactions n t block row → IsPresent s.lists n → AreAsKnown (Some state) (put None (parameters_of n s) q (Some value))
-      → Contains (edges p (own_table p) t.next block row) (move to state) → MayBeEntered p to → Balanced p n (Some row) (Some state) s.entities s.entities → WellTyped p (enter_next n t to (assign_to n q value s))
+  goes_with : (s : State) → WellTyped p s → (n to q : ℕ) (value : ℤ) (t : Transaction) (block : Block) (row state : Row)
+      → IsAt p s.transactions n t block row → IsPresent s.lists n → AreAsKnown (Some state) (put None (parameters_of n s) q (Some value))
+      → Contains (edges p (own_table p) t.next block row) (move to state) → MayBeEntered p to
+      → Balanced p n (Some row) (Some state) s.entities s.entities → WellTyped p (enter_next n t to (assign_to n q value s))
   goes_with s ty n to q value t block row state is here known along may balance =
       let ts = s.transactions in
       let lead = leads p t.next to block row state (flow.each_row t.next block row is.block_is is.row_is) along in
       let a : Transaction = record t { current = t.next; next = to } in
       let bears = bearer_at ts n t is.found in
       let later : LiveTransaction = with_attributes a (with_parameter q value bears.0) in
-      let now : option_map (with_attributes a) (at None (put_parameter n q value ts) n) ≡ Some later = ap (option_map (with_attributes a)) (at-put None ts n (option_map (with_parameter q value) (at None ts n)) ∙ ap (option_map (with_parameter q value)) bears.1) in
-      let same : put_attributes n a (put_parameter n q value ts) ≡ put None ts n (Some later) = ap (put None (put_parameter n q value ts) n) now ∙ put-put None ts n (option_map (with_parameter q value) (at None ts n)) (Some later) in
+      let now : option_map (with_attributes a) (at None (put_parameter n q value ts) n) ≡ Some later =
+      ap (option_map (with_attributes a))
+      (at-put None ts n (option_map (with_parameter q value) (at None ts n)) ∙ ap (option_map (with_parameter q value)) bears.1) in
+      let same : put_attributes n a (put_parameter n q value ts) ≡ put None ts n (Some later) =
+      ap (put None (put_parameter n q value ts) n) now ∙ put-put None ts n (option_map (with_parameter q value) (at None ts n)) (Some later) in
       let goes_to : place later ≡ targets.Block to = place-free later a (its_chain (at None ts n) bears.0 None bears.1 is.free) refl in
       let its : own_table p (place later) ≡ Some lead.row = ap (own_table p) goes_to ∙ lead.is in
-      let set : AreAsKnown (Some state) later.parameters = subst (λ o. AreAsKnown (Some state) (put None (option_map_or (λ (x : LiveTransaction). x.parameters) o no_parameters) q (Some value))) bears.1 known in
+      let set : AreAsKnown (Some state) later.parameters =
+      subst (λ o. AreAsKnown (Some state)
+      (put None (option_map_or (λ (x : LiveTransaction). x.parameters) o no_parameters) q (Some value))) bears.1 known in
       subst (λ xs. Agree p xs s.lists s.entities) (sym same)
       (agree-written p ts s.lists s.entities ty s.lists s.entities n (Some later)
       (nowhere p ts s.lists s.entities ty n here)
       (subst (λ xs. EachResidesOnce xs s.lists) same (resides-entered n t to (assign_to n q value s) (resides-assigned n q value s ty.resides))) refl refl
       (linked-written p ts s.lists s.entities ty s.lists n (Some later) refl (its_chain (at None ts n) bears.0 None bears.1 is.free ∙ sym is.free))
-      (record { there = subst (IsThere p) (sym goes_to) (there (block_at p.blocks to) may); row = ap is_some its; parameters = subst (λ r. AreAsKnown r later.parameters) (sym its) (known_on state lead.row later.parameters lead.fits set) })
+      (record {
+        there = subst (IsThere p) (sym goes_to) (there (block_at p.blocks to) may);
+        row = ap is_some its;
+        parameters =
+            subst (λ r. AreAsKnown r later.parameters) (sym its) (known_on state lead.row later.parameters lead.fits set);
+      })
       (subst (λ r. Balanced p n r (own_table p (place later)) s.entities s.entities) (sym (its_row p ts n t block row is))
-      (subst (λ r. Balanced p n (Some row) r s.entities s.entities) (sym its) (balanced-fits p n (Some row) state lead.row s.entities s.entities balance lead.fits))))
+      (subst (λ r. Balanced p n (Some row) r s.entities s.entities) (sym its)
+      (balanced-fits p n (Some row) state lead.row s.entities s.entities balance lead.fits))))
 
   leaves : (s : State) → WellTyped p s → (n : ℕ) → s.lists.active ≡ Some n → OwnsNothing p n s.transactions → WellTyped p (destroy n s)
   leaves s ty n active is =
       agree-written p s.transactions s.lists s.entities ty (destroy n s).lists s.entities n None
       (nowhere p s.transactions s.lists s.entities ty n (present s.lists n active))
       (resides-destroyed n is.t s active is.found ty.resides) refl refl
-      (linked-written p s.transactions s.lists s.entities ty (destroy n s).lists n None refl (sym (present_free p s.transactions s.lists s.entities ty n (present s.lists n active)))) tt
-      (subst (λ r. Balanced p n r None s.entities s.entities) (sym (ap (row_of p) is.found ∙ is.row_is)) (balanced-end p n is.row s.entities (lists-none is.row.facilities is.none)))
+      (linked-written p s.transactions s.lists s.entities ty (destroy n s).lists n None refl
+      (sym (present_free p s.transactions s.lists s.entities ty n (present s.lists n active)))) tt
+      (subst (λ r. Balanced p n r None s.entities s.entities) (sym (ap (row_of p) is.found ∙ is.row_is))
+      (balanced-end p n is.row s.entities (lists-none is.row.facilities is.none)))
 
-  pub arrived : (s : State) → WellTyped p s → (b : ℕ) (g : Generate) (row : Row) (priority time : ℤ) → block_at p.blocks b ≡ Some (blocks.Generate g) → own_row p b ≡ Some row → is_empty row ≡ true → WellTyped p (arrives b priority time s)
+  pub arrived : (s : State) → WellTyped p s → (b : ℕ) (g : Generate) (row : Row) (priority time : ℤ) → block_at p.blocks b
+      ≡ Some (blocks.Generate g) → own_row p b ≡ Some row → is_empty row ≡ true → WellTyped p (arrives b priority time s)
   arrived s ty b g row priority time block is none =
       let n = length s.transactions in
       let v : LiveTransaction = newcomer b priority s in
       agree-written p s.transactions s.lists s.entities ty (arrives b priority time s).lists s.entities n (Some v)
       (fresh p s.transactions s.lists s.entities ty)
       (resides-arrives b priority time s ty.resides) refl refl
-      (linked-written p s.transactions s.lists s.entities ty (arrives b priority time s).lists n (Some v) refl (sym (ap chain_of (at_past None s.transactions n (omega arith)))))
-      (record { there = ap is_some block; row = ap is_some is; parameters = subst (λ r. AreAsKnown r no_parameters) (sym is) (all_as_known row none no_parameters) })
+      (linked-written p s.transactions s.lists s.entities ty (arrives b priority time s).lists n (Some v) refl
+      (sym (ap chain_of (at_past None s.transactions n (omega arith)))))
+      (record {
+        there = ap is_some block;
+        row = ap is_some is;
+        parameters =
+            subst (λ r. AreAsKnown r no_parameters) (sym is) (all_as_known row none no_parameters);
+      })
       (subst (λ t. Balanced p n (row_of p t) (own_row p b) s.entities s.entities) (sym (at_past None s.transactions n (omega arith)))
       (subst (λ r. Balanced p n None r s.entities s.entities) (sym is) (balanced-arrival p n row s.entities none)))
 
   -- a copy goes along an edge, and has nothing but parameters
-  copy_made : (s : State) → WellTyped p s → (n target b : ℕ) (t : Transaction) (block : Block) (row state : Row) → AreAsKnown (Some state) (parameters_of n s) → block_at p.blocks b ≡ Some block → own_row p b ≡ Some row
-      → Contains (edges p (own_table p) b block row) (move target state) → MayBeEntered p target → state.facilities ≡ [] → state.units ≡ [] → WellTyped p (copy_to n t target s)
+  copy_made : (s : State) → WellTyped p s → (n target b : ℕ) (t : Transaction) (block : Block) (row state : Row)
+      → AreAsKnown (Some state) (parameters_of n s) → block_at p.blocks b ≡ Some block → own_row p b ≡ Some row
+      → Contains (edges p (own_table p) b block row) (move target state) → MayBeEntered p target → state.facilities ≡ [] → state.units ≡ []
+      → WellTyped p (copy_to n t target s)
   copy_made s ty n target b t block row state known block_is row_is along may facilities units =
       let m = length s.transactions in
       let v : LiveTransaction = made_with (parameters_of n s) (record t { next = target }) in
@@ -435,8 +539,14 @@ module _ (p : Parts) (flow : FlowHolds p (own_table p)) where
       agree-written p s.transactions s.lists s.entities ty (copy_to n t target s).lists s.entities m (Some v)
       (fresh p s.transactions s.lists s.entities ty)
       (resides-copied n t target s ty.resides) refl refl
-      (linked-written p s.transactions s.lists s.entities ty (copy_to n t target s).lists m (Some v) refl (sym (ap chain_of (at_past None s.transactions m (omega arith)))))
-      (record { there = there (block_at p.blocks target) may; row = ap is_some lead.is; parameters = subst (λ r. AreAsKnown r (parameters_of n s)) (sym lead.is) (known_on state lead.row (parameters_of n s) lead.fits known) })
+      (linked-written p s.transactions s.lists s.entities ty (copy_to n t target s).lists m (Some v) refl
+      (sym (ap chain_of (at_past None s.transactions m (omega arith)))))
+      (record {
+        there = there (block_at p.blocks target) may;
+        row = ap is_some lead.is;
+        parameters =
+            subst (λ r. AreAsKnown r (parameters_of n s)) (sym lead.is) (known_on state lead.row (parameters_of n s) lead.fits known);
+      })
       (subst (λ o. Balanced p m (row_of p o) (own_row p target) s.entities s.entities) (sym (at_past None s.transactions m (omega arith)))
       (subst (λ r. Balanced p m None r s.entities s.entities) (sym lead.is) (balanced-copy p m state lead.row s.entities facilities units lead.fits)))
 
@@ -449,7 +559,8 @@ module _ (p : Parts) (flow : FlowHolds p (own_table p)) where
       (λ m waits.
       elim (cases_eq m n) [
         | inl same ↦ subst (λ k. WaitsFor p e (at None s.transactions k)) (sym same) asks
-        | inr other ↦ ty.waiting e m (omega (arith, waits, occurrences-joined m (priority_of s.transactions) n old, other_number n m (λ same. other (sym same))))
+        | inr other ↦ ty.waiting e m
+            (omega (arith, waits, occurrences-joined m (priority_of s.transactions) n old, other_number n m (λ same. other (sym same))))
       ])
       (λ d apart. ty.waiting d))
       refl ty.assembling
@@ -516,33 +627,48 @@ module _ (p : Parts) (flow : FlowHolds p (own_table p)) where
         | inl e ↦
             let joined = occurrences-linked m l.order n (user_chain l.chain s) in
             let none : occurrences m (user_chain l.chain s) ≡ 0 = ap (λ k. occurrences k (user_chain l.chain s)) e ∙ apart.user_chains l.chain in
-            let one : one_if (is_member l.chain (chain_of (at None (put None ts n (Some v)) m))) ≡ 1 = ap (λ k. one_if (is_member l.chain (chain_of (at None (put None ts n (Some v)) k)))) e ∙ ap (λ o. one_if (is_member l.chain (chain_of o))) (at-put None ts n (Some v)) ∙ same_number l.chain l.chain refl in
+            let one : one_if (is_member l.chain (chain_of (at None (put None ts n (Some v)) m))) ≡ 1 =
+            ap (λ k. one_if (is_member l.chain (chain_of (at None (put None ts n (Some v)) k)))) e
+            ∙ ap (λ o. one_if (is_member l.chain (chain_of o))) (at-put None ts n (Some v)) ∙ same_number l.chain l.chain refl in
             omega (arith, joined, none, one, same_number n m (sym e))
         | inr e ↦
             let joined = occurrences-linked m l.order n (user_chain l.chain s) in
-            let kept : one_if (is_member l.chain (chain_of (at None (put None ts n (Some v)) m))) ≡ one_if (is_member l.chain (chain_of (at None ts m))) = ap (λ o. one_if (is_member l.chain (chain_of o))) (at-put_other None ts n m (Some v) e) in
+            let kept : one_if (is_member l.chain (chain_of (at None (put None ts n (Some v)) m)))
+            ≡ one_if (is_member l.chain (chain_of (at None ts m))) =
+            ap (λ o. one_if (is_member l.chain (chain_of o))) (at-put_other None ts n m (Some v) e) in
             omega (arith, joined, kept, ty.linked l.chain m, other_number n m (λ d. e (sym d)))
       ])
       (λ c other m.
       elim (cases_eq m n) [
         | inl e ↦
             let none : occurrences m (user_chain c s) ≡ 0 = ap (λ k. occurrences k (user_chain c s)) e ∙ apart.user_chains c in
-            let one : one_if (is_member c (chain_of (at None (put None ts n (Some v)) m))) ≡ 0 = ap (λ k. one_if (is_member c (chain_of (at None (put None ts n (Some v)) k)))) e ∙ ap (λ o. one_if (is_member c (chain_of o))) (at-put None ts n (Some v)) ∙ other_number l.chain c (λ d. other (sym d)) in
+            let one : one_if (is_member c (chain_of (at None (put None ts n (Some v)) m))) ≡ 0 =
+            ap (λ k. one_if (is_member c (chain_of (at None (put None ts n (Some v)) k)))) e
+            ∙ ap (λ o. one_if (is_member c (chain_of o))) (at-put None ts n (Some v)) ∙ other_number l.chain c (λ d. other (sym d)) in
             none ∙ sym one
         | inr e ↦ ty.linked c m ∙ sym (ap (λ o. one_if (is_member c (chain_of o))) (at-put_other None ts n m (Some v) e))
       ]))
-      (record { there = tt; row = ap is_some may.members_is; parameters = subst (λ r. AreAsKnown r may.t.parameters) (sym may.members_is) (known_on may.row may.members may.t.parameters may.fits known) })
+      (record {
+        there = tt;
+        row = ap is_some may.members_is;
+        parameters =
+            subst (λ r. AreAsKnown r may.t.parameters) (sym may.members_is) (known_on may.row may.members may.t.parameters may.fits known);
+      })
       (subst (λ r. Balanced p n r (own_table p (targets.Chain l.chain)) s.entities s.entities) (sym was)
-      (subst (λ r. Balanced p n (Some may.row) r s.entities s.entities) (sym may.members_is) (balanced-fits p n (Some may.row) may.row may.members s.entities s.entities (balanced-nothing p n may.row s.entities) may.fits))))
+      (subst (λ r. Balanced p n (Some may.row) r s.entities s.entities) (sym may.members_is)
+      (balanced-fits p n (Some may.row) may.row may.members s.entities s.entities (balanced-nothing p n may.row s.entities) may.fits))))
 
   -- the first member of a user chain leaves it: its place is a block from then on
-  unlinks : (s : State) → WellTyped p s → (c target n : ℕ) (t : Transaction) (ns : List ℕ) (members row : Row) → user_chain c s ≡ n ∷ ns → attributes_at n s.transactions ≡ Some t → own_table p (targets.Chain c) ≡ Some members → own_row p target ≡ Some row → Fits members row → MayBeEntered p target
+  unlinks : (s : State) → WellTyped p s → (c target n : ℕ) (t : Transaction) (ns : List ℕ) (members row : Row) → user_chain c s ≡ n ∷ ns
+      → attributes_at n s.transactions ≡ Some t → own_table p (targets.Chain c) ≡ Some members → own_row p target ≡ Some row
+      → Fits members row → MayBeEntered p target
       → WellTyped p (leaves_chain c target n t s)
   unlinks s ty c target n t ns members row is found members_is row_is fits may =
       let ts = s.transactions in
       let bears = bearer_at ts n t found in
       let v : LiveTransaction = with_chain None (with_attributes (record t { next = target }) bears.0) in
-      let same : put_chain n None (put_attributes n (record t { next = target }) ts) ≡ put None ts n (Some v) = written_both ts n (record t { next = target }) None bears.0 bears.1 in
+      let same : put_chain n None (put_attributes n (record t { next = target }) ts) ≡ put None ts n (Some v) =
+      written_both ts n (record t { next = target }) None bears.0 bears.1 in
       let one : occurrences n (user_chain c s) ≡ one_if (n == n) + occurrences n ns = ap (occurrences n) is in
       let here : 1 ≤ occurrences n (user_chain c s) = omega (arith, one, same_number n n refl) in
       let only = most p ts s.lists s.entities ty n in
@@ -555,57 +681,86 @@ module _ (p : Parts) (flow : FlowHolds p (own_table p)) where
       (agree-written p ts s.lists s.entities ty (leaves_chain c target n t s).lists s.entities n (Some v)
       (λ e. omega (arith, only, here, occurrences-one n s.lists.delay_lists e, occurrences-one n s.lists.user_chains c))
       (subst (λ xs. EachResidesOnce xs (leaves_chain c target n t s).lists) same (resides-unlinked c target n t ns s is ty.resides)) refl refl
-      (by_entry [] s.lists.user_chains c (rest (user_chain c s)) (λ d ms. (m : ℕ) → occurrences m ms ≡ one_if (is_member d (chain_of (at None (put None ts n (Some v)) m))))
+      (by_entry [] s.lists.user_chains c (rest (user_chain c s))
+      (λ d ms. (m : ℕ) → occurrences m ms ≡ one_if (is_member d (chain_of (at None (put None ts n (Some v)) m))))
       (λ m.
       elim (cases_eq m n) [
         | inl e ↦
-            let none : one_if (is_member c (chain_of (at None (put None ts n (Some v)) m))) ≡ 0 = ap (λ k. one_if (is_member c (chain_of (at None (put None ts n (Some v)) k)))) e ∙ ap (λ o. one_if (is_member c (chain_of o))) (at-put None ts n (Some v)) in
+            let none : one_if (is_member c (chain_of (at None (put None ts n (Some v)) m))) ≡ 0 =
+            ap (λ k. one_if (is_member c (chain_of (at None (put None ts n (Some v)) k)))) e
+            ∙ ap (λ o. one_if (is_member c (chain_of o))) (at-put None ts n (Some v)) in
             let others : occurrences m (rest (user_chain c s)) ≡ occurrences n ns = left m ∙ ap (λ k. occurrences k ns) e in
             omega (arith, none, others, one, same_number n n refl, only, occurrences-one n s.lists.user_chains c)
         | inr e ↦
-            let kept : one_if (is_member c (chain_of (at None (put None ts n (Some v)) m))) ≡ one_if (is_member c (chain_of (at None ts m))) = ap (λ o. one_if (is_member c (chain_of o))) (at-put_other None ts n m (Some v) e) in
+            let kept : one_if (is_member c (chain_of (at None (put None ts n (Some v)) m)))
+            ≡ one_if (is_member c (chain_of (at None ts m))) = ap (λ o. one_if (is_member c (chain_of o))) (at-put_other None ts n m (Some v) e) in
             let before : occurrences m (user_chain c s) ≡ one_if (n == m) + occurrences m ns = ap (occurrences m) is in
             omega (arith, kept, before, left m, ty.linked c m, other_number n m (λ d. e (sym d)))
       ])
       (λ d other m.
       elim (cases_eq m n) [
         | inl e ↦
-            let none : one_if (is_member d (chain_of (at None (put None ts n (Some v)) m))) ≡ 0 = ap (λ k. one_if (is_member d (chain_of (at None (put None ts n (Some v)) k)))) e ∙ ap (λ o. one_if (is_member d (chain_of o))) (at-put None ts n (Some v)) in
-            let before : occurrences m (user_chain d s) ≡ 0 = ap (λ k. occurrences k (user_chain d s)) e ∙ ty.linked d n ∙ ap (λ o. one_if (is_member d o)) member ∙ other_number c d (λ g. other (sym g)) in
+            let none : one_if (is_member d (chain_of (at None (put None ts n (Some v)) m))) ≡ 0 =
+            ap (λ k. one_if (is_member d (chain_of (at None (put None ts n (Some v)) k)))) e
+            ∙ ap (λ o. one_if (is_member d (chain_of o))) (at-put None ts n (Some v)) in
+            let before : occurrences m (user_chain d s) ≡ 0 = ap (λ k. occurrences k (user_chain d s)) e ∙ ty.linked d n
+            ∙ ap (λ o. one_if (is_member d o)) member ∙ other_number c d (λ g. other (sym g)) in
             before ∙ sym none
         | inr e ↦ ty.linked d m ∙ sym (ap (λ o. one_if (is_member d (chain_of o))) (at-put_other None ts n m (Some v) e))
       ]))
-      (record { there = there (block_at p.blocks target) may; row = ap is_some row_is; parameters = subst (λ r. AreAsKnown r bears.0.parameters) (sym row_is) (known_on members row bears.0.parameters fits known) })
+      (record {
+        there = there (block_at p.blocks target) may;
+        row = ap is_some row_is;
+        parameters =
+            subst (λ r. AreAsKnown r bears.0.parameters) (sym row_is) (known_on members row bears.0.parameters fits known);
+      })
       (subst (λ r. Balanced p n r (own_row p target) s.entities s.entities) (sym (ap (row_of p) bears.1 ∙ was))
-      (subst (λ r. Balanced p n (Some members) r s.entities s.entities) (sym row_is) (balanced-fits p n (Some members) members row s.entities s.entities (balanced-nothing p n members s.entities) fits))))
+      (subst (λ r. Balanced p n (Some members) r s.entities s.entities) (sym row_is)
+      (balanced-fits p n (Some members) members row s.entities s.entities (balanced-nothing p n members s.entities) fits))))
 
   rests : (s : State) → WellTyped p s → (n : ℕ) (placement : Placement) → Rested p n placement s → WellTyped p (placed_at n placement s)
   rests s ty n StaysActive may = ty
-  rests s ty n (RestsUntil time) may = agree-apart p s.transactions s.lists s.entities ty (rests_until n time s).lists (resides-rests n time s may.0 ty.resides) refl refl ty.assembling
+  rests s ty n (RestsUntil time) may =
+      agree-apart p s.transactions s.lists s.entities ty (rests_until n time s).lists (resides-rests n time s may.0 ty.resides) refl refl ty.assembling
   rests s ty n (JoinsDelayList e) may = waits s ty e n may.0 may.1
-  rests s ty n JoinsRetryList may = agree-apart p s.transactions s.lists s.entities ty (retries n s).lists (resides-retries n s may ty.resides) refl refl ty.assembling
-  rests s ty n RestsAhead may = agree-apart p s.transactions s.lists s.entities ty (rests_ahead n s).lists (resides-ahead n s may ty.resides) refl refl ty.assembling
-  rests s ty n RestsBehind may = agree-apart p s.transactions s.lists s.entities ty (rests_behind n s).lists (resides-behind n s may ty.resides) refl refl ty.assembling
+  rests s ty n JoinsRetryList may =
+      agree-apart p s.transactions s.lists s.entities ty (retries n s).lists (resides-retries n s may ty.resides) refl refl ty.assembling
+  rests s ty n RestsAhead may =
+      agree-apart p s.transactions s.lists s.entities ty (rests_ahead n s).lists (resides-ahead n s may ty.resides) refl refl ty.assembling
+  rests s ty n RestsBehind may =
+      agree-apart p s.transactions s.lists s.entities ty (rests_behind n s).lists (resides-behind n s may ty.resides) refl refl ty.assembling
   rests s ty n (AwaitsSet a) may =
-      agree-apart p s.transactions s.lists s.entities ty (awaits_set n a s).lists (resides-awaits n a s may.0 ty.resides) refl refl (missing-begun s.lists.assemblies (record { block = a.block; set = a.set; number = n; missing = a.missing }) ty.assembling may.1)
+      agree-apart p s.transactions s.lists s.entities ty (awaits_set n a s).lists (resides-awaits n a s may.0 ty.resides) refl refl
+      (missing-begun s.lists.assemblies (record { block = a.block; set = a.set; number = n; missing = a.missing }) ty.assembling may.1)
   rests s ty n (JoinsChain l) may = links s ty n l may.0 may.1
   rests s ty n LeavesModel may = leaves s ty n may.0 may.1
 
   pub change-keeps : {en ar c en' ar' c' : ℕ} {s t : State} → Change p en ar c s en' ar' c' t → WellTyped p s → WellTyped p t
-  change-keeps (Goes {s = s} n to t u block row state h is same here known along may balance pays) ty = goes s ty n to t u block row state h is here known along may balance
-  change-keeps (EntersLast {s = s} n t block row is here pays) ty = enters s ty n t.next t t block row row s.entities is here (its_parameters p s ty n t block row is) (ap is_some is.block_is) is.row_is (balanced-nothing p n row s.entities)
+  change-keeps (Goes {s = s} n to t u block row state h is same here known along may balance pays) ty =
+      goes s ty n to t u block row state h is here known along may balance
+  change-keeps (EntersLast {s = s} n t block row is here pays) ty =
+      enters s ty n t.next t t block row row s.entities is here (its_parameters p s ty n t block row is) (ap is_some is.block_is) is.row_is
+      (balanced-nothing p n row s.entities)
   change-keeps (Turns {s = s} n to t block row is here along may pays) ty = turns s ty n to t block row is here along may
-  change-keeps (GoesWith {s = s} n to q value t block row state is here known along may balance pays) ty = goes_with s ty n to q value t block row state is here known along may balance
+  change-keeps (GoesWith {s = s} n to q value t block row state is here known along may balance pays) ty =
+      goes_with s ty n to q value t block row state is here known along may balance
   change-keeps (Arrives {s = s} b g row priority time block is none later passes owed few) ty = arrived s ty b g row priority time block is none
   change-keeps (Rests {s = s} n placement may settles) ty = rests s ty n placement may
   change-keeps (Called {s = s} e n here below) ty = called s ty e n here
-  change-keeps (Copied {s = s} n target b t u block row state found mark known block_is row_is along may facilities units few pays) ty = copy_made s ty n target b t block row state known block_is row_is along may facilities units
-  change-keeps (Assembled {s = s} a is) ty = agree-apart p s.transactions s.lists s.entities ty (assemble_all a s).lists (resides-assembled a s is ty.resides) refl refl (missing-without (is_of a.block a.set) s.lists.assemblies ty.assembling)
-  change-keeps (Comes {s = s} a is more) ty = agree-apart p s.transactions s.lists s.entities ty (come_to a s).lists (resides-come a s ty.resides) refl refl (missing-changed (is_of a.block a.set) s.lists.assemblies a is more ty.assembling)
-  change-keeps (Unlinked {s = s} c target n t ns members row is found members_is row_is fits may below pays) ty = unlinks s ty c target n t ns members row is found members_is row_is fits may
+  change-keeps (Copied {s = s} n target b t u block row state found mark known block_is row_is along may facilities units few pays) ty =
+      copy_made s ty n target b t block row state known block_is row_is along may facilities units
+  change-keeps (Assembled {s = s} a is) ty =
+      agree-apart p s.transactions s.lists s.entities ty (assemble_all a s).lists (resides-assembled a s is ty.resides) refl refl
+      (missing-without (is_of a.block a.set) s.lists.assemblies ty.assembling)
+  change-keeps (Comes {s = s} a is more) ty =
+      agree-apart p s.transactions s.lists s.entities ty (come_to a s).lists (resides-come a s ty.resides) refl refl
+      (missing-changed (is_of a.block a.set) s.lists.assemblies a is more ty.assembling)
+  change-keeps (Unlinked {s = s} c target n t ns members row is found members_is row_is fits may below pays) ty =
+      unlinks s ty c target n t ns members row is found members_is row_is fits may
   change-keeps (Woken {s = s}) ty = agree-apart p s.transactions s.lists s.entities ty (wake s).lists (resides-woken s ty.resides) refl refl ty.assembling
   change-keeps (Activates {s = s} n ns nobody first) ty =
-      agree-apart p s.transactions s.lists s.entities ty (record s.lists { active = Some n; current_events = ns }) (resides-active n ns s nobody first ty.resides) refl refl ty.assembling
+      agree-apart p s.transactions s.lists s.entities ty (record s.lists { active = Some n; current_events = ns })
+      (resides-active n ns s nobody first ty.resides) refl refl ty.assembling
   change-keeps (ClockMoves {s = s} e es is) ty = moved_on s ty e.time
   change-keeps (Draws streams same) ty = ty
   change-keeps (Counts by) ty = ty

@@ -1,5 +1,6 @@
 -- The weight of a state through each elementary change: what it falls by pays for entries.
-use Rattle.std.proofs.Common.{◌≡◌, ◌≢◌, ℕ, suc, ◌+◌, ◌-◌, ◌*◌, ◌<◌, ◌≤◌, ◌≤ℤ◌, ℤ, List, [], ◌∷◌, length, Option, Some, None, Bool, true, false, is_some, if◌then◌else◌, ◌==◌, ◌&&◌, ◌||◌, option_map, refl, sym, ap, ◌∙◌, subst, arith, IsSome}
+use Rattle.std.proofs.Common.{◌≡◌, ◌≢◌, ℕ, suc, ◌+◌, ◌-◌, ◌*◌, ◌<◌, ◌≤◌, ◌≤ℤ◌, ℤ, List, [], ◌∷◌, length, Option, Some, None, Bool, true, false}
+use Rattle.std.proofs.Common.{is_some, if◌then◌else◌, ◌==◌, ◌&&◌, ◌||◌, option_map, refl, sym, ap, ◌∙◌, subst, arith, IsSome}
 use Rattle.std.specs.Prelude.{◌<ℤ◌, sum, int_lt, int_le, IsTrue, IsSomeAnd}
 use Rattle.std.specs.Option.{option_map_or}
 use Rattle.std.specs.List.{list_any}
@@ -22,9 +23,11 @@ use Rattle.gw_num.specs.Table.{at, put, tabulate}
 use Rattle.gw_num.proofs.Tables.{at-replicate, at-put, at-put_other, at_some, length-put, length-put_next}
 use Rattle.gw_members.specs.Chain.{in_time, later}
 use Rattle.gw_transactions.specs.declared.Transaction.{Transaction}
-use Rattle.gw_transactions.specs.Transactions.{LiveTransaction, made_with, with_attributes, with_parameter, with_chain, attributes_at, put_attributes, put_parameter}
+use Rattle.gw_transactions.specs.Transactions.{LiveTransaction, made_with, with_attributes, with_parameter, with_chain, attributes_at, put_attributes}
+use Rattle.gw_transactions.specs.Transactions.{put_parameter}
 use Rattle.gw_step.specs.declared.placement.Placement.{Placement}
-use Rattle.gw_step.specs.declared.placement.Placement.TheVariants.{StaysActive, RestsUntil, JoinsDelayList, JoinsRetryList, RestsAhead, RestsBehind, AwaitsSet, JoinsChain, LeavesModel}
+use Rattle.gw_step.specs.declared.placement.Placement.TheVariants.{StaysActive, RestsUntil, JoinsDelayList, JoinsRetryList, RestsAhead, RestsBehind}
+use Rattle.gw_step.specs.declared.placement.Placement.TheVariants.{AwaitsSet, JoinsChain, LeavesModel}
 use Rattle.gw_step.specs.State.{FutureEvent, EntityStates, State, user_chain, with_one_more_at}
 use Rattle.gw_step.specs.Changes.{numbers, newcomer, enter_next, assign_to, arrives, copy_to, rests_until, joins_chain, leaves_chain, destroy, clock_moves}
 use Rattle.gw_step.specs.Blocks.{is_owed}
@@ -42,7 +45,9 @@ use Rattle.gw_step.proofs.Residence.{one_if, at_most_one, same_number, occurrenc
 use Rattle.gw_step.proofs.Within.{sum-raised}
 use Rattle.gw_step.proofs.Follows.{block_below}
 use Rattle.gw_step.proofs.Placed.{placed_at-leaves}
-use Rattle.gw_step.proofs.Traces.{leads, its_chain, present, member_of, IsPresent, Rested, Settles, Change, Goes, EntersLast, Turns, GoesWith, Arrives, Copied, Rests, Called, Assembled, Comes, Unlinked, Woken, Activates, ClockMoves, Draws, Counts, Marks, Trace, Done, Then, change-keeps}
+use Rattle.gw_step.proofs.Traces.{leads, its_chain, present, member_of, IsPresent, Rested, Settles, Change, Goes, EntersLast, Turns, GoesWith}
+use Rattle.gw_step.proofs.Traces.{Arrives, Copied, Rests, Called, Assembled, Comes, Unlinked, Woken, Activates, ClockMoves, Draws, Counts, Marks}
+use Rattle.gw_step.proofs.Traces.{Trace, Done, Then, change-keeps}
 use Rattle.gw_step.proofs.Bounds.{change-within}
 use Rattle.gw_step.proofs.Paying.{weighs_within}
 
@@ -57,19 +62,22 @@ pub not_there : (moment : ℤ) (n : ℕ) (es : List FutureEvent) → occurrences
 not_there moment n [] none = refl
 not_there moment n (e ∷ es) none = by_number (e.number == n) refl (not_there moment n es (omega (arith, none)))
   where
-    by_number : (b : Bool) → (e.number == n) ≡ b → list_any (IsAfter moment n) es ≡ false → ((b && int_lt moment e.time) || list_any (IsAfter moment n) es) ≡ false
+    by_number : (b : Bool) → (e.number == n) ≡ b → list_any (IsAfter moment n) es ≡ false
+        → ((b && int_lt moment e.time) || list_any (IsAfter moment n) es) ≡ false
     by_number true is rest = absurd (omega (arith, none, ap one_if is))
     by_number false is rest = rest
 
 -- a newcomer to the chain concerns itself alone
-other_joins : (moment : ℤ) (n m : ℕ) (time : ℤ) (es : List FutureEvent) → m ≢ n → list_any (IsAfter moment m) (in_time (λ (e : FutureEvent). e.time) (record { time = time; number = n }) es) ≡ list_any (IsAfter moment m) es
+other_joins : (moment : ℤ) (n m : ℕ) (time : ℤ) (es : List FutureEvent) → m ≢ n
+    → list_any (IsAfter moment m) (in_time (λ (e : FutureEvent). e.time) (record { time = time; number = n }) es) ≡ list_any (IsAfter moment m) es
 other_joins moment n m time [] other = ap (λ b. (b && int_lt moment time) || false) (ne_eqb n m (λ same. other (sym same)))
 other_joins moment n m time (e ∷ es) other = by_test (int_le e.time time) (other_joins moment n m time es other)
   where
     new : FutureEvent
     new = record { time = time; number = n }
 
-    by_test : (b : Bool) → list_any (IsAfter moment m) (in_time (λ (x : FutureEvent). x.time) new es) ≡ list_any (IsAfter moment m) es → list_any (IsAfter moment m) (if b then e ∷ in_time (λ (x : FutureEvent). x.time) new es else new ∷ e ∷ es) ≡ list_any (IsAfter moment m) (e ∷ es)
+    by_test : (b : Bool) → list_any (IsAfter moment m) (in_time (λ (x : FutureEvent). x.time) new es) ≡ list_any (IsAfter moment m) es
+        → list_any (IsAfter moment m) (if b then e ∷ in_time (λ (x : FutureEvent). x.time) new es else new ∷ e ∷ es) ≡ list_any (IsAfter moment m) (e ∷ es)
     by_test true same = ap (λ b. IsAfter moment m e || b) same
     by_test false same = ap (λ b. (b && int_lt moment time) || list_any (IsAfter moment m) (e ∷ es)) (ne_eqb n m (λ is. other (sym is)))
 
@@ -78,7 +86,8 @@ or_true true = refl
 or_true false = refl
 
 -- and is scheduled for later itself, where its time is after the moment
-itself_joins : (moment : ℤ) (n : ℕ) (time : ℤ) (es : List FutureEvent) → int_lt moment time ≡ true → list_any (IsAfter moment n) (in_time (λ (e : FutureEvent). e.time) (record { time = time; number = n }) es) ≡ true
+itself_joins : (moment : ℤ) (n : ℕ) (time : ℤ) (es : List FutureEvent) → int_lt moment time ≡ true
+    → list_any (IsAfter moment n) (in_time (λ (e : FutureEvent). e.time) (record { time = time; number = n }) es) ≡ true
 itself_joins moment n time es after = by_list es
   where
     new : FutureEvent
@@ -91,12 +100,14 @@ itself_joins moment n time es after = by_list es
     by_list [] = ap (λ b. b || false) is_after
     by_list (e ∷ es) = by_test (int_le e.time time) (by_list es)
       where
-        by_test : (b : Bool) → list_any (IsAfter moment n) (in_time (λ (x : FutureEvent). x.time) new es) ≡ true → list_any (IsAfter moment n) (if b then e ∷ in_time (λ (x : FutureEvent). x.time) new es else new ∷ e ∷ es) ≡ true
+        by_test : (b : Bool) → list_any (IsAfter moment n) (in_time (λ (x : FutureEvent). x.time) new es) ≡ true
+            → list_any (IsAfter moment n) (if b then e ∷ in_time (λ (x : FutureEvent). x.time) new es else new ∷ e ∷ es) ≡ true
         by_test true there = ap (λ b. IsAfter moment n e || b) there ∙ or_true (IsAfter moment n e)
         by_test false there = ap (λ b. b || list_any (IsAfter moment n) (e ∷ es)) is_after
 
 -- none is after a moment that is due by then
-due_left : (moment : ℤ) (n : ℕ) (es : List FutureEvent) → list_any (IsAfter moment n) (later (λ (e : FutureEvent). e.time) moment es) ≡ list_any (IsAfter moment n) es
+due_left : (moment : ℤ) (n : ℕ) (es : List FutureEvent) → list_any (IsAfter moment n) (later (λ (e : FutureEvent). e.time) moment es)
+    ≡ list_any (IsAfter moment n) es
 due_left moment n [] = refl
 due_left moment n (e ∷ es) = by_due (int_le e.time moment) refl (due_left moment n es)
   where
@@ -108,8 +119,11 @@ due_left moment n (e ∷ es) = by_due (int_le e.time moment) refl (due_left mome
     by_order true due is = absurd (omega (arith, ints, due, is))
     by_order false due is = refl
 
-    by_due : (b : Bool) → int_le e.time moment ≡ b → list_any (IsAfter moment n) (later (λ (x : FutureEvent). x.time) moment es) ≡ list_any (IsAfter moment n) es → list_any (IsAfter moment n) (if b then later (λ (x : FutureEvent). x.time) moment es else e ∷ es) ≡ list_any (IsAfter moment n) (e ∷ es)
-    by_due true due same = same ∙ sym (ap (λ b. b || list_any (IsAfter moment n) es) (by_number (e.number == n) (int_lt moment e.time) (by_order (int_lt moment e.time) due refl)))
+    by_due : (b : Bool) → int_le e.time moment ≡ b → list_any (IsAfter moment n) (later (λ (x : FutureEvent). x.time) moment es)
+        ≡ list_any (IsAfter moment n) es
+        → list_any (IsAfter moment n) (if b then later (λ (x : FutureEvent). x.time) moment es else e ∷ es) ≡ list_any (IsAfter moment n) (e ∷ es)
+    by_due true due same = same
+        ∙ sym (ap (λ b. b || list_any (IsAfter moment n) es) (by_number (e.number == n) (int_lt moment e.time) (by_order (int_lt moment e.time) due refl)))
     by_due false left same = refl
 
 -- WHAT ONE WEIGHS
@@ -142,33 +156,53 @@ module _ (p : Parts) where
   owed_same s t same = ap (λ (xs : List ℕ). sum (tabulate (λ b. owed_by (block_at p.blocks b) (at 0 xs b) * weight_at p.weights b) (length p.blocks + 1))) same
 
   -- nobody weighs anything else
-  weight_stays : (s t : State) → length t.transactions ≡ length s.transactions → t.scheduled ≡ s.scheduled → ((i : ℕ) → weighs p t i ≡ weighs p s i) → weight p t ≡ weight p s
+  weight_stays : (s t : State) → length t.transactions ≡ length s.transactions → t.scheduled ≡ s.scheduled
+      → ((i : ℕ) → weighs p t i ≡ weighs p s i) → weight p t ≡ weight p s
   unfolding weight
   weight_stays s t lengths same each =
-      omega (arith, ap (λ k. sum (tabulate (weighs p t) k)) lengths, sum-same (weighs p s) (weighs p t) (length s.transactions) (λ i below. each i), owed_same s t same)
+      omega (
+        arith,
+        ap (λ k. sum (tabulate (weighs p t) k)) lengths,
+        sum-same (weighs p s) (weighs p t) (length s.transactions) (λ i below. each i),
+        owed_same s t same,
+      )
 
   -- only the transaction n does
-  weight_changes : (s t : State) (n : ℕ) → n < length s.transactions → length t.transactions ≡ length s.transactions → t.scheduled ≡ s.scheduled → ((i : ℕ) → i ≢ n → weighs p t i ≡ weighs p s i) → weight p t + weighs p s n ≡ weight p s + weighs p t n
+  weight_changes : (s t : State) (n : ℕ) → n < length s.transactions → length t.transactions ≡ length s.transactions → t.scheduled
+      ≡ s.scheduled → ((i : ℕ) → i ≢ n → weighs p t i ≡ weighs p s i) → weight p t + weighs p s n ≡ weight p s + weighs p t n
   unfolding weight
   weight_changes s t n below lengths same others =
-      omega (arith, ap (λ k. sum (tabulate (weighs p t) k)) lengths, sum-but_one (weighs p s) (weighs p t) (length s.transactions) n below others, owed_same s t same)
+      omega (
+        arith,
+        ap (λ k. sum (tabulate (weighs p t) k)) lengths,
+        sum-but_one (weighs p s) (weighs p t) (length s.transactions) n below others,
+        owed_same s t same,
+      )
 
   -- one comes besides
   weight_grows : (s t : State) → length t.transactions ≡ suc (length s.transactions) → ((i : ℕ) → i < length s.transactions → weighs p t i ≡ weighs p s i)
-      → weight p t + sum (tabulate (owes p s) (length p.blocks + 1)) ≡ weight p s + weighs p t (length s.transactions) + sum (tabulate (owes p t) (length p.blocks + 1))
+      → weight p t + sum (tabulate (owes p s) (length p.blocks + 1)) ≡ weight p s + weighs p t (length s.transactions)
+      + sum (tabulate (owes p t) (length p.blocks + 1))
   unfolding weight
   weight_grows s t lengths others =
-      omega (arith, ap (λ k. sum (tabulate (weighs p t) k)) lengths, sum-more (weighs p t) (length s.transactions), sum-same (weighs p s) (weighs p t) (length s.transactions) others)
+      omega (
+        arith,
+        ap (λ k. sum (tabulate (weighs p t) k)) lengths,
+        sum-more (weighs p t) (length s.transactions),
+        sum-same (weighs p s) (weighs p t) (length s.transactions) others,
+      )
 
   -- the others weigh what they weighed, where the transaction n is written
-  others_weigh : (s : State) (n : ℕ) (v : Option LiveTransaction) (i : ℕ) → i ≢ n → (if is_later s i then 0 else weight_in p (at None (put None s.transactions n v) i)) ≡ weighs p s i
+  others_weigh : (s : State) (n : ℕ) (v : Option LiveTransaction) (i : ℕ) → i ≢ n
+      → (if is_later s i then 0 else weight_in p (at None (put None s.transactions n v) i)) ≡ weighs p s i
   others_weigh s n v i other = ap (λ o. if is_later s i then 0 else weight_in p o) (at-put_other None s.transactions n i v other)
 
   -- ENTRIES
 
   -- the transaction n is written, and is not scheduled for later
   enters : (s : State) → WellTyped p s → (n to : ℕ) (t u : Transaction) (h : EntityStates) → attributes_at n s.transactions ≡ Some t → IsPresent s.lists n
-      → weight p (record (enter_next n u to s) { entities = h }) + weight_in p (at None s.transactions n) ≤ weight p s + weight_in p (at None (enter_next n u to s).transactions n)
+      → weight p (record (enter_next n u to s) { entities = h }) + weight_in p (at None s.transactions n) ≤ weight p s
+      + weight_in p (at None (enter_next n u to s).transactions n)
   enters s ty n to t u h found here =
       let after : State = record (enter_next n u to s) { entities = h } in
       let v : Option LiveTransaction = option_map (with_attributes (record u { current = u.next; next = to })) (at None s.transactions n) in
@@ -188,7 +222,8 @@ module _ (p : Parts) where
 
   -- a parameter of it is set besides
   enters_with : (s : State) → WellTyped p s → (n to q : ℕ) (value : ℤ) (t : Transaction) → attributes_at n s.transactions ≡ Some t → IsPresent s.lists n
-      → weight p (enter_next n t to (assign_to n q value s)) + weight_in p (at None s.transactions n) ≤ weight p s + weight_in p (at None (enter_next n t to (assign_to n q value s)).transactions n)
+      → weight p (enter_next n t to (assign_to n q value s)) + weight_in p (at None s.transactions n) ≤ weight p s
+      + weight_in p (at None (enter_next n t to (assign_to n q value s)).transactions n)
   enters_with s ty n to q value t found here =
       let ts = s.transactions in
       let after : State = enter_next n t to (assign_to n q value s) in
@@ -217,7 +252,9 @@ module _ (p : Parts) where
   the_block (Some block) h = (block, refl)
 
   -- who is written there, and is a member of no user chain, weighs no more than the block to which it goes on
-  lands : Weighted p → (ts : List (Option LiveTransaction)) (n : ℕ) (u : LiveTransaction) (a : Transaction) (row : Row) → at None ts n ≡ Some u → u.chain ≡ None → MayBeEntered p a.next → own_row p a.next ≡ Some row → weight_in p (at None (put_attributes n a ts) n) ≤ weighs_there p a.next u.parameters
+  lands : Weighted p → (ts : List (Option LiveTransaction)) (n : ℕ) (u : LiveTransaction) (a : Transaction) (row : Row) → at None ts n
+      ≡ Some u → u.chain ≡ None → MayBeEntered p a.next → own_row p a.next ≡ Some row → weight_in p (at None (put_attributes n a ts) n)
+      ≤ weighs_there p a.next u.parameters
   lands weighted ts n u a row there free may row_is =
       let block = the_block (block_at p.blocks a.next) may in
       omega (arith, ap (weight_in p) (written_at ts n a u there), weighs_within p weighted (with_attributes a u) block.0 row free block.1 row_is)
@@ -229,14 +266,17 @@ module _ (p : Parts) where
     owed_other : (i : ℕ) → i ≢ b → owes p (arrives b priority time s) i ≡ owes p s i
     owed_other i other = ap (λ k. owed_by (block_at p.blocks i) k * weight_at p.weights i) (at-put_other 0 s.scheduled b i (at 0 s.scheduled b + 1) other)
 
-    owed_now : (g : Generate) → block_at p.blocks b ≡ Some (blocks.Generate g) → owes p (arrives b priority time s) b ≡ still_owed g (at 0 s.scheduled b + 1) * weight_at p.weights b
-    owed_now g is = ap (λ o. owed_by o (at 0 (with_one_more_at b s.scheduled) b) * weight_at p.weights b) is ∙ ap (λ k. still_owed g k * weight_at p.weights b) (at-put 0 s.scheduled b (at 0 s.scheduled b + 1))
+    owed_now : (g : Generate) → block_at p.blocks b ≡ Some (blocks.Generate g) → owes p (arrives b priority time s) b
+        ≡ still_owed g (at 0 s.scheduled b + 1) * weight_at p.weights b
+    owed_now g is = ap (λ o. owed_by o (at 0 (with_one_more_at b s.scheduled) b) * weight_at p.weights b) is
+        ∙ ap (λ k. still_owed g k * weight_at p.weights b) (at-put 0 s.scheduled b (at 0 s.scheduled b + 1))
 
     owed_before : (g : Generate) → block_at p.blocks b ≡ Some (blocks.Generate g) → owes p s b ≡ still_owed g (at 0 s.scheduled b) * weight_at p.weights b
     owed_before g is = ap (λ o. owed_by o (at 0 s.scheduled b) * weight_at p.weights b) is
 
   -- a transaction that is scheduled for now weighs what was owed for it
-  paid_by_owed : (limit : Option ℕ) (k w : ℕ) → IsSome limit → is_owed limit k ≡ true → option_map_or (λ most. most - (k + 1)) limit 0 * w + w ≡ option_map_or (λ most. most - k) limit 0 * w
+  paid_by_owed : (limit : Option ℕ) (k w : ℕ) → IsSome limit → is_owed limit k ≡ true → option_map_or (λ most. most - (k + 1)) limit 0 * w
+      + w ≡ option_map_or (λ most. most - k) limit 0 * w
   paid_by_owed None k w some owed = absurd (false≢true some)
   paid_by_owed (Some most) k w some owed =
       let one : most - k ≡ suc (most - (k + 1)) = omega (arith, ltb-true k most owed) in
@@ -244,7 +284,9 @@ module _ (p : Parts) where
       omega (arith, same)
 
   module _ (weighted : Weighted p) where
-    arrive : (s : State) (b : ℕ) (g : Generate) (priority time : ℤ) → block_at p.blocks b ≡ Some (blocks.Generate g) → (takes_time g.interval.mean g.interval.half ≡ true → s.clock <ℤ time) → is_owed g.limit (at 0 s.scheduled b) ≡ true → b < length p.blocks + 1 → (row : Row) → own_row p b ≡ Some row → weight p (arrives b priority time s) ≤ weight p s
+    arrive : (s : State) (b : ℕ) (g : Generate) (priority time : ℤ) → block_at p.blocks b ≡ Some (blocks.Generate g)
+        → (takes_time g.interval.mean g.interval.half ≡ true → s.clock <ℤ time) → is_owed g.limit (at 0 s.scheduled b) ≡ true → b
+        < length p.blocks + 1 → (row : Row) → own_row p b ≡ Some row → weight p (arrives b priority time s) ≤ weight p s
     arrive s b g priority time is passes owed below row row_is = by_time (takes_time g.interval.mean g.interval.half) refl (int_lt s.clock time) refl
       where
         n : ℕ
@@ -253,16 +295,25 @@ module _ (p : Parts) where
         after : State
         after = arrives b priority time s
 
-        grown : weight p after + sum (tabulate (owes p s) (length p.blocks + 1)) ≡ weight p s + weighs p after n + sum (tabulate (owes p after) (length p.blocks + 1))
+        grown : weight p after + sum (tabulate (owes p s) (length p.blocks + 1)) ≡ weight p s + weighs p after n
+            + sum (tabulate (owes p after) (length p.blocks + 1))
         grown = weight_grows s after (length-put_next None s.transactions (Some (newcomer b priority s)))
             (λ i lower. let other : i ≢ n = λ same. omega (arith, lower, same) in
-            ap (λ (l : Bool). if l then 0 else weight_in p (at None (put None s.transactions n (Some (newcomer b priority s))) i)) (other_joins s.clock n i time s.lists.future_events other) ∙ others_weigh s n (Some (newcomer b priority s)) i other)
+            ap (λ (l : Bool). if l then 0 else weight_in p (at None (put None s.transactions n (Some (newcomer b priority s))) i))
+            (other_joins s.clock n i time s.lists.future_events other) ∙ others_weigh s n (Some (newcomer b priority s)) i other)
 
         owing : sum (tabulate (owes p after) (length p.blocks + 1)) + owes p s b ≡ sum (tabulate (owes p s) (length p.blocks + 1)) + owes p after b
         owing = sum-but_one (owes p s) (owes p after) (length p.blocks + 1) b below (λ i other. owed_other s b priority time i other)
 
         weighs_new : weighs p after n ≤ weight_at p.weights b
-        weighs_new = let there = at-put None s.transactions n (Some (newcomer b priority s)) in omega (arith, weighs_at_most p after n, ap (weight_in p) there, weighs_within p weighted (newcomer b priority s) (blocks.Generate g) row refl is row_is, nothing_added (slope_at p.slopes b))
+        weighs_new = let there = at-put None s.transactions n (Some (newcomer b priority s)) in
+            omega (
+              arith,
+              weighs_at_most p after n,
+              ap (weight_in p) there,
+              weighs_within p weighted (newcomer b priority s) (blocks.Generate g) row refl is row_is,
+              nothing_added (slope_at p.slopes b),
+            )
 
         limited : (a c : Bool) → a ≡ false → IsTrue (a || c) → c ≡ true
         limited true c not some = absurd (false≢true (sym not))
@@ -271,24 +322,37 @@ module _ (p : Parts) where
         by_time : (x : Bool) → takes_time g.interval.mean g.interval.half ≡ x → (y : Bool) → int_lt s.clock time ≡ y → weight p after ≤ weight p s
         by_time true takes true later =
             let no = weighs_nothing p after n (itself_joins s.clock n time s.lists.future_events later) in
-            let before = owed_before s b priority time g is ∙ ap (λ (x : Bool). (if x then 0 else option_map_or (λ most. most - at 0 s.scheduled b) g.limit 0) * weight_at p.weights b) takes in
-            let now = owed_now s b priority time g is ∙ ap (λ (x : Bool). (if x then 0 else option_map_or (λ most. most - (at 0 s.scheduled b + 1)) g.limit 0) * weight_at p.weights b) takes in
+            let before = owed_before s b priority time g is
+            ∙ ap (λ (x : Bool). (if x then 0 else option_map_or (λ most. most - at 0 s.scheduled b) g.limit 0) * weight_at p.weights b) takes in
+            let now = owed_now s b priority time g is
+            ∙ ap (λ (x : Bool). (if x then 0 else option_map_or (λ most. most - (at 0 s.scheduled b + 1)) g.limit 0) * weight_at p.weights b) takes in
             omega (arith, grown, owing, no, before, now)
         by_time true takes false early = absurd (omega (arith, ints, passes takes, early))
         by_time false may y order =
             let limit = limited (takes_time g.interval.mean g.interval.half) (is_some g.limit) may (weighted.arrivals b g is) in
-            let before = owed_before s b priority time g is ∙ ap (λ (x : Bool). (if x then 0 else option_map_or (λ most. most - at 0 s.scheduled b) g.limit 0) * weight_at p.weights b) may in
-            let now = owed_now s b priority time g is ∙ ap (λ (x : Bool). (if x then 0 else option_map_or (λ most. most - (at 0 s.scheduled b + 1)) g.limit 0) * weight_at p.weights b) may in
+            let before = owed_before s b priority time g is
+            ∙ ap (λ (x : Bool). (if x then 0 else option_map_or (λ most. most - at 0 s.scheduled b) g.limit 0) * weight_at p.weights b) may in
+            let now = owed_now s b priority time g is
+            ∙ ap (λ (x : Bool). (if x then 0 else option_map_or (λ most. most - (at 0 s.scheduled b + 1)) g.limit 0) * weight_at p.weights b) may in
             omega (arith, grown, owing, weighs_new, before, now, paid_by_owed g.limit (at 0 s.scheduled b) (weight_at p.weights b) limit owed)
 
-  copy_comes : Weighted p → (s : State) (n : ℕ) (t : Transaction) (target : ℕ) (row : Row) → MayBeEntered p target → own_row p target ≡ Some row → weight p (copy_to n t target s) ≤ weight p s + weighs_there p target (parameters_of n s)
+  copy_comes : Weighted p → (s : State) (n : ℕ) (t : Transaction) (target : ℕ) (row : Row) → MayBeEntered p target → own_row p target
+      ≡ Some row → weight p (copy_to n t target s) ≤ weight p s + weighs_there p target (parameters_of n s)
   copy_comes weighted s n t target row may row_is =
       let m = length s.transactions in
       let v : LiveTransaction = made_with (parameters_of n s) (record t { next = target }) in
       let after : State = copy_to n t target s in
       let block = the_block (block_at p.blocks target) may in
-      let grown = weight_grows s after (length-put_next None s.transactions (Some v)) (λ i lower. let other : i ≢ m = λ same. omega (arith, lower, same) in others_weigh s m (Some v) i other) in
-      omega (arith, grown, owed_same s after refl, weighs_at_most p after m, ap (weight_in p) (at-put None s.transactions m (Some v)), weighs_within p weighted v block.0 row refl block.1 row_is)
+      let grown = weight_grows s after (length-put_next None s.transactions (Some v))
+      (λ i lower. let other : i ≢ m = λ same. omega (arith, lower, same) in others_weigh s m (Some v) i other) in
+      omega (
+        arith,
+        grown,
+        owed_same s after refl,
+        weighs_at_most p after m,
+        ap (weight_in p) (at-put None s.transactions m (Some v)),
+        weighs_within p weighted v block.0 row refl block.1 row_is,
+      )
 
   -- RESTS
 
@@ -301,12 +365,14 @@ module _ (p : Parts) where
       by_number (Some u) is = at_some s.transactions n u is
 
   -- who rests until later weighs nothing meanwhile
-  rest_until : (s : State) → WellTyped p s → (n : ℕ) (time : ℤ) → s.lists.active ≡ Some n → s.clock <ℤ time → weight p (rests_until n time s) + weight_in p (at None s.transactions n) ≤ weight p s
+  rest_until : (s : State) → WellTyped p s → (n : ℕ) (time : ℤ) → s.lists.active ≡ Some n → s.clock <ℤ time
+      → weight p (rests_until n time s) + weight_in p (at None s.transactions n) ≤ weight p s
   rest_until s ty n time active after =
       let t : State = rests_until n time s in
       let below = live_below s ty n active in
       let none = present_now p s ty n (present s.lists n active) in
-      let changes = weight_changes s t n below refl refl (λ i other. ap (λ (l : Bool). if l then 0 else weight_in p (at None s.transactions i)) (other_joins s.clock n i time s.lists.future_events other)) in
+      let changes = weight_changes s t n below refl refl
+      (λ i other. ap (λ (l : Bool). if l then 0 else weight_in p (at None s.transactions i)) (other_joins s.clock n i time s.lists.future_events other)) in
       omega (arith, changes, weighs_all p s n none, weighs_nothing p t n (itself_joins s.clock n time s.lists.future_events (lower s.clock time after)))
     where
       lower : (a b : ℤ) → a <ℤ b → int_lt a b ≡ true
@@ -317,13 +383,21 @@ module _ (p : Parts) where
           by_test false is = absurd (omega (arith, ints, h, is))
 
   -- who joins a user chain weighs what that weighs
-  chain_joined : (s : State) → WellTyped p s → (n : ℕ) (l : Link) → s.lists.active ≡ Some n → weight p (joins_chain n l s) + weight_in p (at None s.transactions n) ≤ weight p s + chain_weight p l.chain
+  chain_joined : (s : State) → WellTyped p s → (n : ℕ) (l : Link) → s.lists.active ≡ Some n → weight p (joins_chain n l s)
+      + weight_in p (at None s.transactions n) ≤ weight p s + chain_weight p l.chain
   chain_joined s ty n l active =
       let t : State = joins_chain n l s in
       let below = live_below s ty n active in
       let v : Option LiveTransaction = option_map (with_chain (Some l.chain)) (at None s.transactions n) in
       let changes = weight_changes s t n below (length-put None s.transactions n v below) refl (λ i other. others_weigh s n v i other) in
-      omega (arith, changes, weighs_all p s n (present_now p s ty n (present s.lists n active)), weighs_at_most p t n, ap (weight_in p) (at-put None s.transactions n v), linked_at_most l.chain (at None s.transactions n))
+      omega (
+        arith,
+        changes,
+        weighs_all p s n (present_now p s ty n (present s.lists n active)),
+        weighs_at_most p t n,
+        ap (weight_in p) (at-put None s.transactions n v),
+        linked_at_most l.chain (at None s.transactions n),
+      )
     where
       linked_at_most : (c : ℕ) (o : Option LiveTransaction) → weight_in p (option_map (with_chain (Some c)) o) ≤ chain_weight p c
       linked_at_most c None = omega arith
@@ -335,9 +409,16 @@ module _ (p : Parts) where
       let t : State = destroy n s in
       let below = live_below s ty n active in
       let changes = weight_changes s t n below (length-put None s.transactions n None below) refl (λ i other. others_weigh s n None i other) in
-      omega (arith, changes, weighs_all p s n (present_now p s ty n (present s.lists n active)), weighs_at_most p t n, ap (weight_in p) (at-put None s.transactions n None))
+      omega (
+        arith,
+        changes,
+        weighs_all p s n (present_now p s ty n (present s.lists n active)),
+        weighs_at_most p t n,
+        ap (weight_in p) (at-put None s.transactions n None),
+      )
 
-  rests_pay : Weighted p → (s : State) → WellTyped p s → (n : ℕ) (placement : Placement) (c d : ℕ) → Rested p n placement s → Settles p n placement s c d → weight p (placed_at n placement s) + d ≤ weight p s + c
+  rests_pay : Weighted p → (s : State) → WellTyped p s → (n : ℕ) (placement : Placement) (c d : ℕ) → Rested p n placement s
+      → Settles p n placement s c d → weight p (placed_at n placement s) + d ≤ weight p s + c
   unfolding weight
   rests_pay weighted s ty n StaysActive c d may settles = omega (arith, settles)
   rests_pay weighted s ty n (RestsUntil time) c d may settles = omega (arith, rest_until s ty n time may.0 may.1, settles weighted)
@@ -350,7 +431,9 @@ module _ (p : Parts) where
   rests_pay weighted s ty n LeavesModel c d may settles = omega (arith, left_model s ty n may.0, settles weighted)
 
   -- a member leaves its user chain for a block
-  member_leaves : Weighted p → (s : State) → WellTyped p s → (c target n : ℕ) (t : Transaction) (ns : List ℕ) → user_chain c s ≡ n ∷ ns → attributes_at n s.transactions ≡ Some t → (row : Row) → MayBeEntered p target → own_row p target ≡ Some row → weight p (leaves_chain c target n t s) + chain_weight p c ≤ weight p s + weighs_there p target (parameters_of n s)
+  member_leaves : Weighted p → (s : State) → WellTyped p s → (c target n : ℕ) (t : Transaction) (ns : List ℕ) → user_chain c s ≡ n ∷ ns
+      → attributes_at n s.transactions ≡ Some t → (row : Row) → MayBeEntered p target → own_row p target ≡ Some row
+      → weight p (leaves_chain c target n t s) + chain_weight p c ≤ weight p s + weighs_there p target (parameters_of n s)
   member_leaves weighted s ty c target n t ns is found row may row_is =
       let after : State = leaves_chain c target n t s in
       let bears = bearer_at s.transactions n t found in
@@ -358,52 +441,83 @@ module _ (p : Parts) where
       let same = written_both s.transactions n (record t { next = target }) None bears.0 bears.1 in
       let below = number_below s.transactions n t found in
       let here : 1 ≤ occurrences n (user_chain c s) = omega (arith, ap (occurrences n) is, same_number n n refl) in
-      let none : occurrences n (numbers s.lists.future_events) ≡ 0 = omega (arith, ty.resides n, at_most_one (is_some (at None s.transactions n)), here, occurrences-one n s.lists.user_chains c) in
-      let was = weighs_all p s n none ∙ ap (weight_in p) bears.1 ∙ ap (λ (d : Option ℕ). weight_by p d bears.0.attributes.next (two_next p bears.0.attributes) bears.0.parameters) (its_chain (at None s.transactions n) bears.0 (Some c) bears.1 (member_of p s.transactions s.lists s.entities ty c n here)) in
-      let lengths : length after.transactions ≡ length s.transactions = ap (λ (xs : List (Option LiveTransaction)). length xs) same ∙ length-put None s.transactions n (Some v) below in
-      let now : weight_in p (at None after.transactions n) ≡ weight_in p (Some v) = ap (λ xs. weight_in p (at None xs n)) same ∙ ap (weight_in p) (at-put None s.transactions n (Some v)) in
+      let none : occurrences n (numbers s.lists.future_events) ≡ 0 =
+      omega (arith, ty.resides n, at_most_one (is_some (at None s.transactions n)), here, occurrences-one n s.lists.user_chains c) in
+      let was = weighs_all p s n none ∙ ap (weight_in p) bears.1
+      ∙ ap (λ (d : Option ℕ). weight_by p d bears.0.attributes.next (two_next p bears.0.attributes) bears.0.parameters)
+      (its_chain (at None s.transactions n) bears.0 (Some c) bears.1 (member_of p s.transactions s.lists s.entities ty c n here)) in
+      let lengths : length after.transactions ≡ length s.transactions = ap (λ (xs : List (Option LiveTransaction)). length xs) same
+      ∙ length-put None s.transactions n (Some v) below in
+      let now : weight_in p (at None after.transactions n) ≡ weight_in p (Some v) = ap (λ xs. weight_in p (at None xs n)) same
+      ∙ ap (weight_in p) (at-put None s.transactions n (Some v)) in
       let block = the_block (block_at p.blocks target) may in
       let most = weighs_within p weighted v block.0 row refl block.1 row_is in
-      let changes = weight_changes s after n below lengths refl (λ i other. ap (λ xs. if is_later s i then 0 else weight_in p (at None xs i)) same ∙ others_weigh s n (Some v) i other) in
+      let changes = weight_changes s after n below lengths refl
+      (λ i other. ap (λ xs. if is_later s i then 0 else weight_in p (at None xs i)) same ∙ others_weigh s n (Some v) i other) in
       omega (arith, changes, was, now, most, ap (weighs_there p target) (its_own s n bears.0 bears.1), weighs_at_most p after n)
 
   -- the clock moves to where it is
   clock_stays : (s : State) (time : ℤ) → time ≡ s.clock → weight p (clock_moves time s) ≡ weight p s
   clock_stays s time same =
       weight_stays s (clock_moves time s) refl refl
-      (λ i. ap (λ (l : Bool). if l then 0 else weight_in p (at None s.transactions i)) (due_left time i s.lists.future_events ∙ ap (λ z. list_any (IsAfter z i) s.lists.future_events) same))
+      (λ i. ap (λ (l : Bool). if l then 0 else weight_in p (at None s.transactions i))
+      (due_left time i s.lists.future_events ∙ ap (λ z. list_any (IsAfter z i) s.lists.future_events) same))
 
   -- EACH CHANGE
 
   -- what the weight falls by and the credit pay for the entries that a change makes
-  change-weighs : FlowHolds p (own_table p) → Weighted p → {en ar c en' ar' d : ℕ} {s t : State} → Change p en ar c s en' ar' d t → WellTyped p s → IsWithin (length p.blocks) (length p.entities) en ar s → t.clock ≡ s.clock → weight p t + sum t.entries + d ≤ weight p s + sum s.entries + c
+  change-weighs : FlowHolds p (own_table p) → Weighted p → {en ar c en' ar' d : ℕ} {s t : State} → Change p en ar c s en' ar' d t
+      → WellTyped p s → IsWithin (length p.blocks) (length p.entities) en ar s → t.clock ≡ s.clock → weight p t + sum t.entries + d
+      ≤ weight p s + sum s.entries + c
   unfolding weight
   change-weighs flow weighted (Goes {s = s} n to t u block row state h is same here known along may balance pays) ty w clock =
       let lead = leads p t.next to block row state (flow.each_row t.next block row is.block_is is.row_is) along in
       let bears = bearer_at s.transactions n t is.found in
-      let most = lands weighted s.transactions n bears.0 (record u { current = u.next; next = to }) lead.row bears.1 (its_chain (at None s.transactions n) bears.0 None bears.1 is.free) may lead.is in
-      omega (arith, enters s ty n to t u h is.found here, most, ap (weighs_there p to) (its_own s n bears.0 bears.1), sum-raised u.next s.entries, pays weighted)
-  change-weighs flow weighted (EntersLast {s = s} n t block row is here pays) ty w clock = omega (arith, enters s ty n t.next t t s.entities is.found here, sum-raised t.next s.entries, pays weighted)
+      let most = lands weighted s.transactions n bears.0 (record u { current = u.next; next = to }) lead.row bears.1
+      (its_chain (at None s.transactions n) bears.0 None bears.1 is.free) may lead.is in
+      omega (
+        arith,
+        enters s ty n to t u h is.found here,
+        most,
+        ap (weighs_there p to) (its_own s n bears.0 bears.1),
+        sum-raised u.next s.entries,
+        pays weighted,
+      )
+  change-weighs flow weighted (EntersLast {s = s} n t block row is here pays) ty w clock =
+      omega (arith, enters s ty n t.next t t s.entities is.found here, sum-raised t.next s.entries, pays weighted)
   change-weighs flow weighted (Turns {s = s} n to t block row is here along may pays) ty w clock =
       let lead = leads p t.next to block row row (flow.each_row t.next block row is.block_is is.row_is) along in
       let bears = bearer_at s.transactions n t is.found in
-      let most = lands weighted s.transactions n bears.0 (towards to t) lead.row bears.1 (its_chain (at None s.transactions n) bears.0 None bears.1 is.free) may lead.is in
+      let most = lands weighted s.transactions n bears.0 (towards to t) lead.row bears.1
+      (its_chain (at None s.transactions n) bears.0 None bears.1 is.free) may lead.is in
       omega (arith, turns s ty n to t is.found here, most, ap (weighs_there p to) (its_own s n bears.0 bears.1), pays weighted)
   change-weighs flow weighted (GoesWith {s = s} n to q value t block row state is here known along may balance pays) ty w clock =
       let lead = leads p t.next to block row state (flow.each_row t.next block row is.block_is is.row_is) along in
       let bears = bearer_at s.transactions n t is.found in
-      let set_at : at None (put_parameter n q value s.transactions) n ≡ Some (with_parameter q value bears.0) = at-put None s.transactions n (option_map (with_parameter q value) (at None s.transactions n)) ∙ ap (option_map (with_parameter q value)) bears.1 in
-      let most = lands weighted (put_parameter n q value s.transactions) n (with_parameter q value bears.0) (record t { current = t.next; next = to }) lead.row set_at (its_chain (at None s.transactions n) bears.0 None bears.1 is.free) may lead.is in
-      omega (arith, enters_with s ty n to q value t is.found here, most, ap (λ xs. weighs_there p to (put None xs q (Some value))) (its_own s n bears.0 bears.1), sum-raised t.next s.entries, pays weighted)
-  change-weighs flow weighted (Arrives {s = s} b g row priority time block is none later passes owed few) ty w clock = omega (arith, arrive weighted s b g priority time block passes owed (omega (arith, block_below p.blocks b (blocks.Generate g) block)) row is)
+      let set_at : at None (put_parameter n q value s.transactions) n ≡ Some (with_parameter q value bears.0) =
+      at-put None s.transactions n (option_map (with_parameter q value) (at None s.transactions n)) ∙ ap (option_map (with_parameter q value)) bears.1 in
+      let most = lands weighted (put_parameter n q value s.transactions) n (with_parameter q value bears.0)
+      (record t { current = t.next; next = to }) lead.row set_at (its_chain (at None s.transactions n) bears.0 None bears.1 is.free) may lead.is in
+      omega (
+        arith,
+        enters_with s ty n to q value t is.found here,
+        most,
+        ap (λ xs. weighs_there p to (put None xs q (Some value))) (its_own s n bears.0 bears.1),
+        sum-raised t.next s.entries,
+        pays weighted,
+      )
+  change-weighs flow weighted (Arrives {s = s} b g row priority time block is none later passes owed few) ty w clock =
+      omega (arith, arrive weighted s b g priority time block passes owed (omega (arith, block_below p.blocks b (blocks.Generate g) block)) row is)
   change-weighs flow weighted (Copied {s = s} n target b t u block row state found mark known block_is row_is along may facilities units few pays) ty w clock =
       let lead = leads p b target block row state (flow.each_row b block row block_is row_is) along in
       omega (arith, copy_comes weighted s n t target lead.row may lead.is, pays weighted)
-  change-weighs flow weighted (Rests {c = c} {d = d} {s = s} n placement may settles) ty w clock = omega (arith, rests_pay weighted s ty n placement c d may settles, ap (λ (xs : List ℕ). sum xs) (placed_at-leaves n placement s).entries)
+  change-weighs flow weighted (Rests {c = c} {d = d} {s = s} n placement may settles) ty w clock =
+      omega (arith, rests_pay weighted s ty n placement c d may settles, ap (λ (xs : List ℕ). sum xs) (placed_at-leaves n placement s).entries)
   change-weighs flow weighted (Called e n here below) ty w clock = omega arith
   change-weighs flow weighted (Assembled a is) ty w clock = omega arith
   change-weighs flow weighted (Comes a is more) ty w clock = omega arith
-  change-weighs flow weighted (Unlinked {s = s} c target n t ns members row is found members_is row_is fits may below pays) ty w clock = omega (arith, member_leaves weighted s ty c target n t ns is found row may row_is, pays weighted)
+  change-weighs flow weighted (Unlinked {s = s} c target n t ns members row is found members_is row_is fits may below pays) ty w clock =
+      omega (arith, member_leaves weighted s ty c target n t ns is found row may row_is, pays weighted)
   change-weighs flow weighted Woken ty w clock = omega arith
   change-weighs flow weighted (Activates n ns nobody first) ty w clock = omega arith
   change-weighs flow weighted (ClockMoves {s = s} e es is) ty w clock = omega (arith, clock_stays s e.time clock)
@@ -417,7 +531,8 @@ module _ (p : Parts) where
   first_later clock events e es is from = (subst (IsFrom clock) is from).0
 
   -- no change moves the clock back
-  change-later : {en ar c en' ar' d : ℕ} {s t : State} → Change p en ar c s en' ar' d t → IsWithin (length p.blocks) (length p.entities) en ar s → s.clock ≤ℤ t.clock
+  change-later : {en ar c en' ar' d : ℕ} {s t : State} → Change p en ar c s en' ar' d t
+      → IsWithin (length p.blocks) (length p.entities) en ar s → s.clock ≤ℤ t.clock
   change-later (Goes n to t u block row state h is same here known along may balance pays) w = omega (arith, ints)
   change-later (EntersLast n t block row is here pays) w = omega (arith, ints)
   change-later (Turns n to t block row is here along may pays) w = omega (arith, ints)
@@ -436,14 +551,17 @@ module _ (p : Parts) where
   change-later (Counts by) w = omega (arith, ints)
   change-later (Marks steps ended) w = omega (arith, ints)
 
-  pub trace-later : {en ar c en' ar' d : ℕ} {s t : State} → Trace p en ar c s en' ar' d t → IsWithin (length p.blocks) (length p.entities) en ar s → s.clock ≤ℤ t.clock
+  pub trace-later : {en ar c en' ar' d : ℕ} {s t : State} → Trace p en ar c s en' ar' d t
+      → IsWithin (length p.blocks) (length p.entities) en ar s → s.clock ≤ℤ t.clock
   trace-later Done w = omega (arith, ints)
   trace-later (Then x xs) w = omega (arith, ints, change-later x w, trace-later xs (change-within p x w))
 
   -- TRACES
 
   -- so is each list of changes paid for that stays in one clock moment
-  pub trace-weighs : FlowHolds p (own_table p) → Weighted p → {en ar c en' ar' d : ℕ} {s t : State} → Trace p en ar c s en' ar' d t → WellTyped p s → IsWithin (length p.blocks) (length p.entities) en ar s → t.clock ≡ s.clock → weight p t + sum t.entries + d ≤ weight p s + sum s.entries + c
+  pub trace-weighs : FlowHolds p (own_table p) → Weighted p → {en ar c en' ar' d : ℕ} {s t : State} → Trace p en ar c s en' ar' d t
+      → WellTyped p s → IsWithin (length p.blocks) (length p.entities) en ar s → t.clock ≡ s.clock → weight p t + sum t.entries + d
+      ≤ weight p s + sum s.entries + c
   trace-weighs flow weighted Done ty w clock = omega arith
   trace-weighs flow weighted (Then {s = s} {t = t} {u = u} x xs) ty w clock =
       let within = change-within p x w in

@@ -1,5 +1,6 @@
 -- What each block does to the active transaction: whether it refuses it, and what entering comes to.
-use Rattle.std.specs.Prelude.{ℕ, zero, suc, min, length, ◌+◌, ◌-◌, ◌^◌, ℤ, pos, negsuc, List, [], ◌∷◌, Option, Some, None, Result, Ok, Bool, true, false, not, nat_lt, nat_le, ◌==◌, if◌then◌else◌, int_lt, int_le, unsigned_abs, unwrap_or, is_none, ◌&&◌}
+use Rattle.std.specs.Prelude.{ℕ, zero, suc, min, length, ◌+◌, ◌-◌, ◌^◌, ℤ, pos, negsuc, List, [], ◌∷◌, Option, Some, None, Result, Ok, Bool, true}
+use Rattle.std.specs.Prelude.{false, not, nat_lt, nat_le, ◌==◌, if◌then◌else◌, int_lt, int_le, unsigned_abs, unwrap_or, is_none, ◌&&◌}
 use Rattle.std.specs.Ordering.{int_eq}
 use Rattle.std.specs.Option.{option_map_or}
 use Rattle.std.specs.List.{find}
@@ -11,7 +12,8 @@ use Rattle.gw_blocks.specs.declared.parts.Comparison.{Comparison}
 use Rattle.gw_blocks.specs.declared.parts.Comparison.TheVariants.{Equal, NotEqual, Greater, GreaterOrEqual, Less, LessOrEqual}
 use Rattle.gw_blocks.specs.declared.parts.Test.{Test}
 use Rattle.gw_blocks.specs.declared.parts.Condition.{Condition}
-use Rattle.gw_blocks.specs.declared.parts.Condition.TheVariants.{SwitchSet, SwitchReset, FacilityInUse, FacilityNotInUse, StorageFull, StorageEmpty, StorageNotFull, StorageNotEmpty}
+use Rattle.gw_blocks.specs.declared.parts.Condition.TheVariants.{SwitchSet, SwitchReset, FacilityInUse, FacilityNotInUse, StorageFull, StorageEmpty}
+use Rattle.gw_blocks.specs.declared.parts.Condition.TheVariants.{StorageNotFull, StorageNotEmpty}
 use Rattle.gw_blocks.specs.declared.parts.Mode.{Mode}
 use Rattle.gw_blocks.specs.declared.parts.Mode.TheVariants.{Set, Add, Subtract}
 use Rattle.gw_blocks.specs.declared.parts.Assign.{Assign}
@@ -42,11 +44,14 @@ use Rattle.gw_entities.specs.Queue.{with_arrivals, departure_of}
 use Rattle.gw_entities.specs.Tabulation.{tabulation_of}
 use Rattle.gw_step.specs.declared.ends.End.TheVariants.{Number, Live}
 use Rattle.gw_step.specs.declared.placement.Placement.{Placement}
-use Rattle.gw_step.specs.declared.placement.Placement.TheVariants.{StaysActive, RestsUntil, JoinsDelayList, JoinsRetryList, RestsAhead, RestsBehind, AwaitsSet, JoinsChain, LeavesModel}
+use Rattle.gw_step.specs.declared.placement.Placement.TheVariants.{StaysActive, RestsUntil, JoinsDelayList, JoinsRetryList, RestsAhead, RestsBehind}
+use Rattle.gw_step.specs.declared.placement.Placement.TheVariants.{AwaitsSet, JoinsChain, LeavesModel}
 use Rattle.gw_step.specs.Outcome.{Outcome, Gives, EndsBy, ◌>>=◌, only_if, case_of, evaluation_outcome}
 use Rattle.gw_step.specs.State.{Assembly, State, may_enter, with_streams, delay_list, user_chain}
 use Rattle.gw_step.specs.Times.{environment_of, environment_of_next, moment_after, drawn_moment}
-use Rattle.gw_step.specs.Changes.{enter_next, enters_and_falls, arrives, copies_made, is_of, assemble_all, come_to, leaves_chain, called_from, assign_to, facility, storage, queue, switch, savevalue, table, put_facility, put_storage, put_queue, put_switch, put_savevalue, put_table, count_down}
+use Rattle.gw_step.specs.Changes.{enter_next, enters_and_falls, arrives, copies_made, is_of, assemble_all, come_to, leaves_chain, called_from}
+use Rattle.gw_step.specs.Changes.{assign_to, facility, storage, queue, switch, savevalue, table, put_facility, put_storage, put_queue, put_switch}
+use Rattle.gw_step.specs.Changes.{put_savevalue, put_table, count_down}
 use Rattle.gw_step.specs.Placing.{place_by}
 
 -- REFUSAL
@@ -90,7 +95,8 @@ is_so StorageEmpty e s = is_empty (storage e s)
 is_so StorageNotFull e s = not (is_full (storage e s))
 is_so StorageNotEmpty e s = not (is_empty (storage e s))
 
--- a block with these operand values refuses the transaction n: a SEIZE of a facility that another owns, an ENTER of units that are within the capacity and not free, and a TEST or a GATE that is false and names no other block
+-- a block with these operand values refuses the transaction n: a SEIZE of a facility that another owns, an ENTER of
+-- units that are within the capacity and not free, and a TEST or a GATE that is false and names no other block
 abbrev pub refuses : ℕ → Block → List ℤ → State → Bool
 refuses n (blocks.Seize f) values s = has_to_wait (seizure_by n (facility f s))
 refuses n (blocks.Enter u) values s = has_to_wait (entry_of u.number (storage u.entity s))
@@ -138,7 +144,8 @@ within_live_limit more s outcome = if nat_le (live_count s.transactions + more) 
 abbrev pub next_arrival : Parts → ℕ → Generate → State → Outcome State
 next_arrival p b g s =
     if is_owed g.limit (at 0 s.scheduled b)
-    then (drawn_moment p (environment_of_next g.priority s) g.interval s.clock s.streams >>= λ d. within_live_limit 1 s (Gives (arrives b g.priority d.0 (with_streams d.1 s))))
+    then (drawn_moment p (environment_of_next g.priority s) g.interval s.clock s.streams
+    >>= λ d. within_live_limit 1 s (Gives (arrives b g.priority d.0 (with_streams d.1 s))))
     else Gives s
 
 -- the effect of GENERATE: the next arrival is scheduled, and the transaction enters with the clock as its mark time
@@ -175,7 +182,8 @@ hand_over bs f (n ∷ ns) s = option_map_or (takes_over bs f n s) (attributes_at
 
 -- the effect of RELEASE: the transaction, its owner, enters and gives the facility up, and it is handed over
 abbrev pub release : List Block → ℕ → Transaction → ℕ → State → Outcome (State × Placement)
-release bs n t f s = leads bs (t.next + 1) (case_of (release_by n (facility f s)) >>= λ r. stays (hand_over bs f (delay_list f s) (put_facility f r (enters_and_falls n t s))))
+release bs n t f s = leads bs (t.next + 1)
+    (case_of (release_by n (facility f s)) >>= λ r. stays (hand_over bs f (delay_list f s) (put_facility f r (enters_and_falls n t s))))
 
 -- STORAGES
 
@@ -211,7 +219,8 @@ admission bs e (n ∷ ns) s = admission bs e ns (looked_at bs e n s)
 -- the effect of LEAVE: the transaction enters, units of the storage are given back, and waiters are admitted
 abbrev pub leave : List Block → ℕ → Transaction → Units → State → Outcome (State × Placement)
 leave bs n t u s =
-    leads bs (t.next + 1) (case_of (exit_of u.number (storage u.entity s)) >>= λ r. stays (admission bs u.entity (delay_list u.entity s) (put_storage u.entity r (enters_and_falls n t s))))
+    leads bs (t.next + 1) (case_of (exit_of u.number (storage u.entity s))
+    >>= λ r. stays (admission bs u.entity (delay_list u.entity s) (put_storage u.entity r (enters_and_falls n t s))))
 
 -- QUEUES
 
@@ -247,7 +256,8 @@ both bs n t two s =
 
 -- SUBROUTINES
 
--- the effect of TRANSFER in subroutine mode: a parameter of the transaction is set to the number of the block, and the transaction enters and goes to the subroutine
+-- the effect of TRANSFER in subroutine mode: a parameter of the transaction is set to the number of the block, and the
+-- transaction enters and goes to the subroutine
 abbrev pub call : List Block → ℕ → Transaction → Call → State → Outcome (State × Placement)
 call bs n t c s = leads bs c.target (stays (enter_next n t c.target (assign_to n c.parameter (pos t.next) s)))
 
@@ -255,7 +265,8 @@ call bs n t c s = leads bs c.target (stays (enter_next n t c.target (assign_to n
 abbrev pub block_after : ℤ → ℕ
 block_after value = if int_lt value (pos 0) then 0 else unsigned_abs value + 1
 
--- the effect of TRANSFER in parameter mode: the transaction enters and goes to the block after the one whose number is in a parameter of it, which has to be set
+-- the effect of TRANSFER in parameter mode: the transaction enters and goes to the block after the one whose number is
+-- in a parameter of it, which has to be set
 abbrev pub come_back : List Block → ℕ → Transaction → ℕ → State → Outcome (State × Placement)
 come_back bs n t q s = case_of (parameter_at n q s.transactions) >>= λ value. transfer bs n t (block_after value) s
 
@@ -331,7 +342,8 @@ assemble_in bs n t size (Some a) s = assemble_other n t a s
 
 -- the effect of ASSEMBLE: where one is the whole set, the transaction passes
 abbrev pub assemble : List Block → ℕ → Transaction → ℕ → State → Outcome (State × Placement)
-assemble bs n t size s = if nat_le size 1 then leads bs (t.next + 1) (stays (enters_and_falls n t s)) else assemble_in bs n t size (assembly_at t.next t.set s) s
+assemble bs n t size s = if nat_le size 1 then leads bs (t.next + 1) (stays (enters_and_falls n t s)) else
+    assemble_in bs n t size (assembly_at t.next t.set s) s
 
 -- USER CHAINS
 
@@ -355,7 +367,8 @@ taken_by u s = option_map_or (λ most. min most (length (user_chain u.chain s)))
 
 -- the effect of UNLINK: the transaction enters, and members of a user chain leave it for a block
 abbrev pub unlink : List Block → ℕ → Transaction → Unlink → State → Outcome (State × Placement)
-unlink bs n t u s = leads bs (t.next + 1) (others_lead bs (taken_by u s) u.target (stays (unlink_members (taken_by u s) u.chain u.target (enters_and_falls n t s))))
+unlink bs n t u s = leads bs (t.next + 1)
+    (others_lead bs (taken_by u s) u.target (stays (unlink_members (taken_by u s) u.chain u.target (enters_and_falls n t s))))
 
 -- PRIORITY
 
@@ -399,7 +412,8 @@ tabulate bs n t e value s =
 
 -- the effect of TERMINATE: the transaction, which owns nothing, enters and is destroyed, and the termination count falls, but not by less than 0
 abbrev pub terminate : ℕ → Transaction → ℤ → State → Outcome (State × Placement)
-terminate n t by s = if int_lt by (pos 0) then EndsBy Number else only_if (not (owns_any n s.entities.facilities)) (Gives (count_down by (enter_next n t t.next s), LeavesModel))
+terminate n t by s = if int_lt by (pos 0) then EndsBy Number else
+    only_if (not (owns_any n s.entities.facilities)) (Gives (count_down by (enter_next n t t.next s), LeavesModel))
 
 -- THE STEP OF THE ACTIVE TRANSACTION
 

@@ -1,5 +1,6 @@
 -- A job, its steps, and the states that it reaches.
-use Rattle.std.specs.Prelude.{◌≡◌, ℕ, zero, suc, ◌+◌, ◌^◌, ◌≤◌, ◌<◌, pos, ◌<ℤ◌, List, map, length, slice_index_or, Option, Some, None, is_some, IsTrue, ◌==◌, if◌then◌else◌}
+use Rattle.std.specs.Prelude.{◌≡◌, ℕ, zero, suc, ◌+◌, ◌^◌, ◌≤◌, ◌<◌, pos, ◌<ℤ◌, List, map, length, slice_index_or, Option, Some, None, is_some}
+use Rattle.std.specs.Prelude.{IsTrue, ◌==◌, if◌then◌else◌}
 use Rattle.std.specs.List.{All, range_with_len}
 use Rattle.gw_object.specs.declared.parts.Parts.{Parts}
 use Rattle.gw_object.specs.Grammar.{HasSpelling}

@@ -26,7 +26,8 @@ EntriesArePaid = (j : Job) (s t : State) → JobFits j → SameMoment j s t → 
 abbrev pub EntriesAreWithinWeight : Type 0
 EntriesAreWithinWeight = (j : Job) (s t : State) → JobFits j → SameMoment j s t → sum t.entries ≤ sum s.entries + weight j.parts s
 
--- how many steps a job may make in one clock moment from a state of this weight: between two entries at most 65,536 transactions become active, and each of them is refused or goes on; so it is once more where arrivals are due at once
+-- how many steps a job may make in one clock moment from a state of this weight: between two entries at most 65,536
+-- transactions become active, and each of them is refused or goes on; so it is once more where arrivals are due at once
 abbrev pub steps_within : ℕ → ℕ
 steps_within weight = (weight + 1) * (4 * 65536 + 2)
 

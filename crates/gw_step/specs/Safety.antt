@@ -39,7 +39,8 @@ ParametersSuffice = (p : Parts) (s : State) → Checked p → HasSpelling p → 
 
 -- and the interval of a GENERATE asks for no parameter at all
 abbrev pub IntervalsAskForNothing : Type 0
-IntervalsAskForNothing = (p : Parts) (b : ℕ) (g : Generate) (env : Environment) → Checked p → HasSpelling p → block_at p.blocks b ≡ Some (blocks.Generate g) → MayDraw p env g.interval
+IntervalsAskForNothing = (p : Parts) (b : ℕ) (g : Generate) (env : Environment) → Checked p → HasSpelling p → block_at p.blocks b
+    ≡ Some (blocks.Generate g) → MayDraw p env g.interval
 
 -- who has two next blocks in a well-typed state turns to either, and the state stays well-typed
 abbrev pub TurnsKeepTypes : Type 0
@@ -85,4 +86,5 @@ RestingStatesAreWoken = (j : Job) (n : ℕ) (s : State) → JobFits j → Alone 
 
 -- who resides on the retry list in a state that a job of a checked object reaches resides there once, and nowhere else
 abbrev pub RetryingResideOnce : Type 0
-RetryingResideOnce = (j : Job) (n : ℕ) (s : State) → Checked j.parts → Alone j n s → (m : ℕ) → 1 ≤ occurrences m s.lists.retry → (occurrences m s.lists.retry ≡ 1) × (occurrences_in (record s.lists { retry = [] }) m ≡ 0)
+RetryingResideOnce = (j : Job) (n : ℕ) (s : State) → Checked j.parts → Alone j n s → (m : ℕ) → 1 ≤ occurrences m s.lists.retry
+    → (occurrences m s.lists.retry ≡ 1) × (occurrences_in (record s.lists { retry = [] }) m ≡ 0)

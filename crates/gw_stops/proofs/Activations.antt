@@ -1,5 +1,6 @@
 -- Where an activation of PLUS code is stuck, it comes to nothing.
-use Rattle.std.proofs.Common.{◌≡◌, ℕ, zero, suc, ◌+◌, ◌-◌, ◌<◌, ◌≤◌, ℤ, List, [], ◌∷◌, length, Option, Some, None, Bool, true, false, Result, Ok, if◌then◌else◌, nat_lt, nat_le, refl, sym, ap, ◌∙◌, subst, arith}
+use Rattle.std.proofs.Common.{◌≡◌, ℕ, zero, suc, ◌+◌, ◌-◌, ◌<◌, ◌≤◌, ℤ, List, [], ◌∷◌, length, Option, Some, None, Bool, true, false, Result, Ok}
+use Rattle.std.proofs.Common.{if◌then◌else◌, nat_lt, nat_le, refl, sym, ap, ◌∙◌, subst, arith}
 use Rattle.std.specs.Prelude.{slice_get, slice_set}
 use Rattle.std.proofs.lemmas.Bool.{le-ltb, lt-leb, true≢false}
 use Rattle.gw_num.specs.Arithmetic.{is_zero}
@@ -17,17 +18,21 @@ use Rattle.gw_operands.specs.Environment.{Environment}
 use Rattle.gw_operands.specs.Values.{Value as Comes, Unset, ◌>>=◌, came_to, if_set, source_value, operand_value, draws_below}
 use Rattle.gw_operands.specs.Results.{value_by_operand}
 use Rattle.gw_operands.specs.Code.{most_values, procedure_at, arguments_of, takes, leaves, called_in, costs_of}
-use Rattle.gw_operands.specs.Meaning.{Frame, Next, Goes, Calls, Returns, Stuck, on, push_value, or_stuck, pop_value, calculate, opening_frame, act, next, reads_source, calls_with, Derives}
+use Rattle.gw_operands.specs.Meaning.{Frame, Next, Goes, Calls, Returns, Stuck, on, push_value, or_stuck, pop_value, calculate, opening_frame, act}
+use Rattle.gw_operands.specs.Meaning.{next, reads_source, calls_with, Derives}
 use Rattle.gw_operands.specs.Outcome.{Answer, answer_within, outcome_of}
 use Rattle.gw_rules.proofs.Outcomes.{Continues, Unrolled, unroll, one_outcome}
 use Rattle.gw_rules.proofs.Within.{answers_are_derived}
-use Rattle.gw_stops.specs.Activations.{GetsStuck, at_once, later, in_a_call, no_room, after_a_call, ComesTo, StuckActivationsHaveNoOutcome, EmptyStackStops, FullStackStops, FullStackHasNoRoom, JumpOutStops, AbsentProcedureStops, CallOfAbsentStops, GetOfAbsentStops, SetOfAbsentStops, UnsetValueStops, HasNone, LacksValue}
+use Rattle.gw_stops.specs.Activations.{GetsStuck, at_once, later, in_a_call, no_room, after_a_call, ComesTo, StuckActivationsHaveNoOutcome}
+use Rattle.gw_stops.specs.Activations.{EmptyStackStops, FullStackStops, FullStackHasNoRoom, JumpOutStops, AbsentProcedureStops, CallOfAbsentStops}
+use Rattle.gw_stops.specs.Activations.{GetOfAbsentStops, SetOfAbsentStops, UnsetValueStops, HasNone, LacksValue}
 
 -- STUCK ACTIVATIONS HAVE NO OUTCOME
 
 module _ (p : Parts) (env : Environment) where
   -- a call that came to a value comes to no other outcome
-  came_once : (n q : ℕ) (f g : Frame) (arguments : List ℤ) (finish : ℤ → ℤ) (m k : ℕ) (v : ℤ) (r : Result ℤ PlusEnd) → next p env n f ≡ Calls q arguments finish g → Derives p env q (opening_frame (procedure_at p q) arguments) m (Ok v) → Derives p env n f k r
+  came_once : (n q : ℕ) (f g : Frame) (arguments : List ℤ) (finish : ℤ → ℤ) (m k : ℕ) (v : ℤ) (r : Result ℤ PlusEnd) → next p env n f
+      ≡ Calls q arguments finish g → Derives p env q (opening_frame (procedure_at p q) arguments) m (Ok v) → Derives p env n f k r
       → (i : ℕ) × Continues p env n finish g k i (Ok v) r
   came_once n q f g arguments finish m k v r is d derived =
       let u = subst (λ x. Unrolled p env n x k r) is (unroll derived) in
@@ -91,7 +96,8 @@ stuck_with : {X : Type 0} (o : Option X) (then_ : X → Next) → ((x : X) → t
 stuck_with None then_ stuck = refl
 stuck_with (Some x) then_ stuck = stuck x
 
-pops_two : (stack : List ℤ) (then_ : ℤ → ℤ → List ℤ → Next) → length stack < 2 → pop_value stack (λ right rest. pop_value rest (λ left below. then_ right left below)) ≡ Stuck
+pops_two : (stack : List ℤ) (then_ : ℤ → ℤ → List ℤ → Next) → length stack < 2
+    → pop_value stack (λ right rest. pop_value rest (λ left below. then_ right left below)) ≡ Stuck
 pops_two [] then_ few = refl
 pops_two (v ∷ []) then_ few = refl
 pops_two (v ∷ w ∷ stack) then_ few = absurd (omega (arith, few))
@@ -104,13 +110,17 @@ empty : (p : Parts) (env : Environment) (i : Instruction) (f : Frame) → length
 unfolding act
 empty p env (Push v) f few = absurd (omega (arith, few))
 empty p env (Get local) f few = absurd (omega (arith, few))
-empty p env (Set local) f few = pops_nothing f.stack (λ v rest. if nat_lt local (length f.locals) then Goes (record f { place = f.place + 1; stack = rest; locals = slice_set f.locals local v }) else Stuck) few
+empty p env (Set local) f few =
+    pops_nothing f.stack (λ v rest. if nat_lt local (length f.locals) then
+    Goes (record f { place = f.place + 1; stack = rest; locals = slice_set f.locals local v }) else Stuck) few
 empty p env (Value sna) f few = absurd (omega (arith, few))
-empty p env (Binary operator) f few = pops_two f.stack (λ right left below. calculate (binary_value operator left right) (record f { place = f.place + 1; stack = below })) few
+empty p env (Binary operator) f few =
+    pops_two f.stack (λ right left below. calculate (binary_value operator left right) (record f { place = f.place + 1; stack = below })) few
 empty p env (Unary operator) f few = pops_nothing f.stack (λ v rest. calculate (unary_value operator v) (record f { place = f.place + 1; stack = rest })) few
 empty p env Pop f few = pops_nothing f.stack (λ v rest. Goes (record f { place = f.place + 1; stack = rest })) few
 empty p env (Jump target) f few = absurd (omega (arith, few))
-empty p env (JumpIfZero target) f few = pops_nothing f.stack (λ v rest. Goes (record f { place = (if is_zero v then target else f.place + 1); stack = rest })) few
+empty p env (JumpIfZero target) f few =
+    pops_nothing f.stack (λ v rest. Goes (record f { place = (if is_zero v then target else f.place + 1); stack = rest })) few
 empty p env (Back b) f few = absurd (omega (arith, few))
 empty p env (Call q) f few = too_few_arguments q f (procedure_at p q) few
 empty p env Return f few = pops_nothing f.stack (λ v rest. Returns v) few
@@ -121,7 +131,8 @@ empty_stack_stops p env n f i comes few = acts p env n f i Stuck comes (empty p 
 pub full_stack_has_no_room : FullStackHasNoRoom
 full_stack_has_no_room f v full = without (nat_lt (length f.stack) most_values) _ (le-ltb (length f.stack) most_values full)
 
-reads_full : (env : Environment) (source : Operand) (finish : ℤ → ℤ) (f : Frame) → procedure_named source ≡ None → most_values ≤ length f.stack → reads_source env source finish f ≡ Stuck
+reads_full : (env : Environment) (source : Operand) (finish : ℤ → ℤ) (f : Frame) → procedure_named source ≡ None → most_values
+    ≤ length f.stack → reads_source env source finish f ≡ Stuck
 reads_full env (operands.Constant z) finish f none full = full_stack_has_no_room f (finish z) full
 reads_full env (operands.Parameter q) finish f none full = stuck_with (at None env.parameters q) _ (λ v. full_stack_has_no_room f (finish v) full)
 reads_full env (operands.Attribute a) finish f none full = full_stack_has_no_room f _ full
@@ -129,7 +140,8 @@ reads_full env (operands.OfEntity a) finish f none full = full_stack_has_no_room
 reads_full env (operands.Random j) finish f none full = refl
 reads_full env (operands.Procedure q) finish f none full = absurd cc
 
-full : (p : Parts) (env : Environment) (i : Instruction) (f : Frame) → called_in p.entities i ≡ None → takes p i < leaves i → most_values ≤ length f.stack → act p env i f ≡ Stuck
+full : (p : Parts) (env : Environment) (i : Instruction) (f : Frame) → called_in p.entities i ≡ None → takes p i < leaves i → most_values
+    ≤ length f.stack → act p env i f ≡ Stuck
 unfolding act
 full p env (Push v) f none more much = full_stack_has_no_room (on f) v much
 full p env (Get local) f none more much = stuck_with (slice_get f.locals local) _ (λ v. full_stack_has_no_room (on f) v much)
@@ -176,11 +188,13 @@ pub unset_value_stops : UnsetValueStops
 unfolding act
 unset_value_stops p env n q f sna comes is unset =
     acts p env n f (Value sna) Stuck comes
-    (ap (λ source. reads_source env source (value_by_operand p.entities (as_operand sna)) (on f)) is ∙ ap (λ o. or_stuck o (λ v. push_value (value_by_operand p.entities (as_operand sna) v) (on f))) unset)
+    (ap (λ source. reads_source env source (value_by_operand p.entities (as_operand sna)) (on f)) is
+    ∙ ap (λ o. or_stuck o (λ v. push_value (value_by_operand p.entities (as_operand sna) v) (on f))) unset)
 
 -- OPERANDS WITHOUT A VALUE
 
-none_of_source : (p : Parts) (env : Environment) (bound : ℕ) (source : Operand) (streams : List ℕ) → HasNone p env source → source_value p env bound source streams ≡ Unset
+none_of_source : (p : Parts) (env : Environment) (bound : ℕ) (source : Operand) (streams : List ℕ) → HasNone p env source
+    → source_value p env bound source streams ≡ Unset
 none_of_source p env bound (operands.Parameter q) streams none = ap (λ o. if_set o >>= λ value. Comes (value, streams)) none
 none_of_source p env bound (operands.Procedure q) streams none = ap (λ o. came_to o >>= λ value. Comes (value, streams)) (no_outcome p env q none)
 none_of_source p env bound (operands.Constant z) streams none = absurd none
@@ -189,4 +203,5 @@ none_of_source p env bound (operands.OfEntity a) streams none = absurd none
 none_of_source p env bound (operands.Random j) streams none = absurd none
 
 pub lacks_value : (p : Parts) (env : Environment) (o : Operand) (streams : List ℕ) → LacksValue p env o → operand_value p env o streams ≡ Unset
-lacks_value p env o streams none = ap (λ v. v >>= λ value. Comes (value_by_operand p.entities o value.0, value.1)) (none_of_source p env (draws_below o) (source_of p.entities o) streams none)
+lacks_value p env o streams none =
+    ap (λ v. v >>= λ value. Comes (value_by_operand p.entities o value.0, value.1)) (none_of_source p env (draws_below o) (source_of p.entities o) streams none)

@@ -1,5 +1,7 @@
 -- Each error stop is stuck.
-use Rattle.std.proofs.Common.{◌≡◌, ◌⊎◌, ℕ, zero, suc, ◌+◌, ◌<◌, ℤ, pos, ◌-ℤ◌, List, [], ◌∷◌, ◌++◌, Option, Some, None, Bool, true, false, not, if◌then◌else◌, is_some, ◌&&◌, nat_le, ◌==◌, Result, Ok, refl, sym, ap, ◌∙◌, subst, arith, inl, inr, option_map, option_to_list}
+use Rattle.std.proofs.Common.{◌≡◌, ◌⊎◌, ℕ, zero, suc, ◌+◌, ◌<◌, ℤ, pos, ◌-ℤ◌, List, [], ◌∷◌, ◌++◌, Option, Some, None, Bool, true, false, not}
+use Rattle.std.proofs.Common.{if◌then◌else◌, is_some, ◌&&◌, nat_le, ◌==◌, Result, Ok, refl, sym, ap, ◌∙◌, subst, arith, inl, inr, option_map}
+use Rattle.std.proofs.Common.{option_to_list}
 use Rattle.std.specs.Prelude.{int_lt, IfSome}
 use Rattle.std.proofs.lemmas.Bool.{lt-leb, le-leb, false≢true, or_left, or_right, ne_eqb}
 use Rattle.std.proofs.lemmas.Int.{ints}
@@ -29,7 +31,8 @@ use Rattle.gw_step.specs.Outcome.{Outcome, Gives, EndsBy, HasNoCase, ◌>>=◌, 
 use Rattle.gw_step.specs.State.{Assembly, State, may_enter, with_streams}
 use Rattle.gw_step.specs.Times.{environment_of, environment_of_next, moment_after, drawn_moment}
 use Rattle.gw_step.specs.Changes.{facility, storage, queue}
-use Rattle.gw_step.specs.Blocks.{has_to_wait, refuses, refused_placement, the_value, leads, is_owed, next_arrival, others_lead, block_after, loop_target, assembly_at, assemble_in, taken_by, plus, then_placed, effect, meets, act}
+use Rattle.gw_step.specs.Blocks.{has_to_wait, refuses, refused_placement, the_value, leads, is_owed, next_arrival, others_lead, block_after}
+use Rattle.gw_step.specs.Blocks.{loop_target, assembly_at, assemble_in, taken_by, plus, then_placed, effect, meets, act}
 use Rattle.gw_step.specs.Start.{nothing, start_outcome, first_moment, first_arrival, first_arrivals}
 use Rattle.gw_step.specs.declared.placement.Placement.TheVariants.{JoinsRetryList}
 use Rattle.gw_step.specs.Placing.{place_by}
@@ -40,7 +43,10 @@ use Rattle.gw_step.proofs.Steps.{step-none}
 use Rattle.gw_stops.specs.Activations.{OneLacksValue}
 use Rattle.gw_stops.specs.Attempts.{Attempt, at_its_one, at_the_first, at_the_second, Attempts, Tries}
 use Rattle.gw_stops.specs.Moves.{IsNoTarget, goes_on_to, ComesToNoEnd}
-use Rattle.gw_stops.specs.Stops.{ReleaseOfAnothersStops, SeizeOfOnesOwnStops, TerminateWhileOwningStops, AssembleWhileOwningStops, LeaveOfTooMuchStops, DepartOfTooMuchStops, EnterAboveCapacityStops, MissingBlockStops, MoveToNoTargetStops, ChoiceOfNoTargetStops, CopiesToNoTargetStop, MembersToNoTargetStop, OperandWithoutValueStops, LoopByUnsetStops, ReturnByUnsetStops, IntervalWithoutValueStops, ArrivalWithoutValueHasNoStart}
+use Rattle.gw_stops.specs.Stops.{ReleaseOfAnothersStops, SeizeOfOnesOwnStops, TerminateWhileOwningStops, AssembleWhileOwningStops}
+use Rattle.gw_stops.specs.Stops.{LeaveOfTooMuchStops, DepartOfTooMuchStops, EnterAboveCapacityStops, MissingBlockStops, MoveToNoTargetStops}
+use Rattle.gw_stops.specs.Stops.{ChoiceOfNoTargetStops, CopiesToNoTargetStop, MembersToNoTargetStop, OperandWithoutValueStops, LoopByUnsetStops}
+use Rattle.gw_stops.specs.Stops.{ReturnByUnsetStops, IntervalWithoutValueStops, ArrivalWithoutValueHasNoStart}
 use Rattle.gw_stops.proofs.Activations.{lacks_value}
 
 -- OUTCOMES WITHOUT A CASE
@@ -92,7 +98,9 @@ leads_to_none bs a b o to none = let same : a ≡ b = cc in leads_none bs a o (s
 
 module _ (p : Parts) (n : ℕ) where
   -- who has no case at a block isn't refused there
-  unrefused : (t : Transaction) (block : Block) (u : State) (read : List ℤ × List ℕ) (refused : Bool) → (if refused then Gives (place_by n (refused_placement block) (with_streams read.1 u)) else then_placed n (effect p n t block read.0 (with_streams read.1 u))) ≡ HasNoCase → refused ≡ false
+  unrefused : (t : Transaction) (block : Block) (u : State) (read : List ℤ × List ℕ) (refused : Bool)
+      → (if refused then Gives (place_by n (refused_placement block) (with_streams read.1 u)) else
+      then_placed n (effect p n t block read.0 (with_streams read.1 u))) ≡ HasNoCase → refused ≡ false
   unrefused t block u read true none = absurd cc
   unrefused t block u read false none = refl
 
@@ -101,19 +109,23 @@ module _ (p : Parts) (n : ℕ) where
     abbrev answered_so : Bool × List ℕ → Outcome State
     answered_so answer = if answer.0 then otherwise answer.1 else meets_one p n t u
 
-    by_operands : (block : Block) (read : Outcome (List ℤ × List ℕ)) → meets_one p n t u ≡ HasNoCase → (read >>= λ read. meets p n t block read.0 (with_streams read.1 u)) ≡ HasNoCase
+    by_operands : (block : Block) (read : Outcome (List ℤ × List ℕ)) → meets_one p n t u ≡ HasNoCase
+        → (read >>= λ read. meets p n t block read.0 (with_streams read.1 u)) ≡ HasNoCase
         → ((read >>= λ read. Gives (refuses n block read.0 (with_streams read.1 u), read.1)) >>= answered_so) ≡ HasNoCase
-    by_operands block (Gives read) met none = ap (λ refused. answered_so (refused, read.1)) (unrefused t block u read (refuses n block read.0 (with_streams read.1 u)) none) ∙ met
+    by_operands block (Gives read) met none =
+        ap (λ refused. answered_so (refused, read.1)) (unrefused t block u read (refuses n block read.0 (with_streams read.1 u)) none) ∙ met
     by_operands block (EndsBy end) met none = absurd cc
     by_operands block HasNoCase met none = refl
 
     by_block : (block : Option Block) → meets_one p n t u ≡ HasNoCase → (case_of block >>= λ block. act p n t block u) ≡ HasNoCase
-        → ((case_of block >>= λ block. evaluation_outcome (operands p (environment_of n t u) block u.streams) >>= λ read. Gives (refuses n block read.0 (with_streams read.1 u), read.1)) >>= answered_so) ≡ HasNoCase
+        → ((case_of block >>= λ block. evaluation_outcome (operands p (environment_of n t u) block u.streams)
+        >>= λ read. Gives (refuses n block read.0 (with_streams read.1 u), read.1)) >>= answered_so) ≡ HasNoCase
     unfolding act
     by_block None met none = refl
     by_block (Some block) met none = by_operands block (evaluation_outcome (operands p (environment_of n t u) block u.streams)) met none
 
-  tries_none : (t : Transaction) (b : ℕ) (otherwise : State → Outcome State) (s : State) → meets_one p n (towards b t) (turn_to n t b s) ≡ HasNoCase → tries p n t b otherwise s ≡ HasNoCase
+  tries_none : (t : Transaction) (b : ℕ) (otherwise : State → Outcome State) (s : State) → meets_one p n (towards b t) (turn_to n t b s)
+      ≡ HasNoCase → tries p n t b otherwise s ≡ HasNoCase
   tries_none t b otherwise s none = by_block (towards b t) (turn_to n t b s) (λ streams. otherwise (with_streams streams s)) (block_at p.blocks b) none none
 
   goes_on_none : (s u : State) (own t : Transaction) → Attempt p s n own t u → meets_one p n t u ≡ HasNoCase → goes_on p n own (two_next p own) s ≡ HasNoCase
@@ -122,7 +134,8 @@ module _ (p : Parts) (n : ℕ) where
       ap (λ two. goes_on p n own two s) two ∙ tries_none own pair.0 (λ v. tries p n own pair.1 (λ w. Gives (place_by n JoinsRetryList w)) v) s none
   goes_on_none s u own t (at_the_second {pair = pair} {streams = streams} two refused) none =
       ap (λ two. goes_on p n own two s) two
-      ∙ ap (λ o. o >>= λ answer. if answer.0 then tries p n own pair.1 (λ w. Gives (place_by n JoinsRetryList w)) (with_streams answer.1 s) else meets_one p n (towards pair.0 own) (turn_to n own pair.0 s)) refused
+      ∙ ap (λ o. o >>= λ answer. if answer.0 then tries p n own pair.1 (λ w. Gives (place_by n JoinsRetryList w)) (with_streams answer.1 s)
+      else meets_one p n (towards pair.0 own) (turn_to n own pair.0 s)) refused
       ∙ tries_none own pair.1 (λ w. Gives (place_by n JoinsRetryList w)) (with_streams streams s) none
 
 -- what an attempt of the active transaction comes to
@@ -138,9 +151,11 @@ stuck_before j s u n t attempts none = (
 -- at this block
 stuck_at : (j : Job) (s u : State) (n : ℕ) (t : Transaction) (block : Block) → Tries j s u n t block → act j.parts n t block u ≡ HasNoCase → IsStuck j s
 stuck_at j s u n t block tries none =
-    stuck_before j s u n t tries.attempts (then_none (case_of (block_at j.parts.blocks t.next)) (λ block. act j.parts n t block u) block (ap case_of tries.before) none)
+    stuck_before j s u n t tries.attempts
+    (then_none (case_of (block_at j.parts.blocks t.next)) (λ block. act j.parts n t block u) block (ap case_of tries.before) none)
 
-no_effect : (p : Parts) (n : ℕ) (t : Transaction) (block : Block) (values : List ℤ) (streams : List ℕ) (s : State) → operands p (environment_of n t s) block s.streams ≡ Value (values, streams) → refuses n block values (with_streams streams s) ≡ false
+no_effect : (p : Parts) (n : ℕ) (t : Transaction) (block : Block) (values : List ℤ) (streams : List ℕ) (s : State)
+    → operands p (environment_of n t s) block s.streams ≡ Value (values, streams) → refuses n block values (with_streams streams s) ≡ false
     → effect p n t block values (with_streams streams s) ≡ HasNoCase → act p n t block s ≡ HasNoCase
 unfolding act
 no_effect p n t block values streams s read free none =
@@ -190,7 +205,8 @@ assemble_while_owning_stops j s u n f size t a tries more begun owned =
     stuck_at j s u n t (blocks.Assemble size) tries
     (no_effect j.parts n t (blocks.Assemble size) [] u.streams u refl refl
     (else_none (nat_le size 1) _ _ (lt-leb size 1 more)
-    (ap (λ o. assemble_in j.parts.blocks n t size o (with_streams u.streams u)) begun ∙ only_failed (not (owns_any n u.entities.facilities)) _ (ap not (owning n f u.entities.facilities owned)))))
+    (ap (λ o. assemble_in j.parts.blocks n t size o (with_streams u.streams u)) begun
+    ∙ only_failed (not (owns_any n u.entities.facilities)) _ (ap not (owning n f u.entities.facilities owned)))))
 
 -- STORAGES AND QUEUES
 
@@ -199,14 +215,17 @@ unfolding effect
 leave_of_too_much_stops j s u n t units tries few =
     stuck_at j s u n t (blocks.Leave units) tries
     (no_effect j.parts n t (blocks.Leave units) [] u.streams u refl refl
-    (asks_in_vain j.parts.blocks (t.next + 1) (exit_of units.number (storage units.entity u)) _ (ap (λ b. if b then Some (with_exits units.number (storage units.entity u)) else None) (lt-leb units.number (storage units.entity u).contents.content few))))
+    (asks_in_vain j.parts.blocks (t.next + 1) (exit_of units.number (storage units.entity u)) _
+    (ap (λ b. if b then Some (with_exits units.number (storage units.entity u)) else None)
+    (lt-leb units.number (storage units.entity u).contents.content few))))
 
 pub depart_of_too_much_stops : DepartOfTooMuchStops
 unfolding effect
 depart_of_too_much_stops j s u n t units tries few =
     stuck_at j s u n t (blocks.Depart units) tries
     (no_effect j.parts n t (blocks.Depart units) [] u.streams u refl refl
-    (asks_in_vain j.parts.blocks (t.next + 1) (departure_of units.number (queue units.entity u)) _ (ap (λ b. if b then Some (with_departures units.number (queue units.entity u)) else None) (lt-leb units.number (queue units.entity u).content few))))
+    (asks_in_vain j.parts.blocks (t.next + 1) (departure_of units.number (queue units.entity u)) _
+    (ap (λ b. if b then Some (with_departures units.number (queue units.entity u)) else None) (lt-leb units.number (queue units.entity u).content few))))
 
 enters_nothing : (n : ℕ) (s : Storage) → s.capacity < n → entry_of n s ≡ None
 enters_nothing n s above = ap (λ b. if b then (if has_room n s then Some (true, with_entries n s) else Some (false, s)) else None) (lt-leb n s.capacity above)
@@ -228,18 +247,23 @@ answers : {A : Type 0} (r : Result A NumFault) (a : A) → r ≡ Ok a → evalua
 answers r a is = ap (λ r. evaluation_outcome (evaluation_of r)) is
 
 module _ (p : Parts) (n b : ℕ) (t : Transaction) (none : IsNoTarget p.blocks b) where
-  comes_back_to_none : {A : Type 0} (value : Option ℤ) (f : ℤ → Outcome A) → option_map block_after value ≡ Some b → (case_of value >>= λ v. leads p.blocks (block_after v) (f v)) ≡ HasNoCase
+  comes_back_to_none : {A : Type 0} (value : Option ℤ) (f : ℤ → Outcome A) → option_map block_after value ≡ Some b
+      → (case_of value >>= λ v. leads p.blocks (block_after v) (f v)) ≡ HasNoCase
   comes_back_to_none None f to = refl
   comes_back_to_none (Some v) f to = leads_to_none p.blocks (block_after v) b (f v) to none
 
-  loops_to_none : {A : Type 0} (value : Option ℤ) (to_ : ℤ → ℕ) (f : ℤ → Outcome A) → IfSome value (λ old. difference_of old (pos 1) ≡ Ok (old -ℤ pos 1)) → option_map (λ old. to_ (old -ℤ pos 1)) value ≡ Some b
+  loops_to_none : {A : Type 0} (value : Option ℤ) (to_ : ℤ → ℕ) (f : ℤ → Outcome A)
+      → IfSome value (λ old. difference_of old (pos 1) ≡ Ok (old -ℤ pos 1)) → option_map (λ old. to_ (old -ℤ pos 1)) value ≡ Some b
       → (case_of value >>= λ old. evaluation_outcome (evaluation_of (difference_of old (pos 1))) >>= λ left. leads p.blocks (to_ left) (f left)) ≡ HasNoCase
   loops_to_none None to_ f counts to = refl
   loops_to_none (Some old) to_ f counts to =
-      then_none (evaluation_outcome (evaluation_of (difference_of old (pos 1)))) (λ left. leads p.blocks (to_ left) (f left)) (old -ℤ pos 1) (answers (difference_of old (pos 1)) (old -ℤ pos 1) counts)
+      then_none (evaluation_outcome (evaluation_of (difference_of old (pos 1)))) (λ left. leads p.blocks (to_ left) (f left))
+      (old -ℤ pos 1) (answers (difference_of old (pos 1)) (old -ℤ pos 1) counts)
       (leads_to_none p.blocks (to_ (old -ℤ pos 1)) b (f (old -ℤ pos 1)) to none)
 
-  assembles_to_none : (size : ℕ) (s : State) (one : Bool) (a : Option Assembly) (o : Outcome _) → (if not one && is_some a then None else Some (t.next + 1)) ≡ Some b → (if one then leads p.blocks (t.next + 1) o else assemble_in p.blocks n t size a s) ≡ HasNoCase
+  assembles_to_none : (size : ℕ) (s : State) (one : Bool) (a : Option Assembly) (o : Outcome _)
+      → (if not one && is_some a then None else Some (t.next + 1)) ≡ Some b
+      → (if one then leads p.blocks (t.next + 1) o else assemble_in p.blocks n t size a s) ≡ HasNoCase
   assembles_to_none size s true a o to = leads_to_none p.blocks (t.next + 1) b o to none
   assembles_to_none size s false None o to = leads_to_none p.blocks (t.next + 1) b _ to none
   assembles_to_none size s false (Some a) o to = absurd cc
@@ -251,7 +275,8 @@ module _ (p : Parts) (n b : ℕ) (t : Transaction) (none : IsNoTarget p.blocks b
   sets_to_none None value s to = falls_to_none _ to
   sets_to_none (Some q) value s to = falls_to_none _ to
 
-  no_move : (block : Block) (values : List ℤ) (s : State) → ComesToNoEnd p n t block values s → goes_on_to n t block values s ≡ Some b → effect p n t block values s ≡ HasNoCase
+  no_move : (block : Block) (values : List ℤ) (s : State) → ComesToNoEnd p n t block values s → goes_on_to n t block values s ≡ Some b
+      → effect p n t block values s ≡ HasNoCase
   unfolding effect
   no_move (blocks.Generate g) values s ends to = then_none (next_arrival p t.next g s) _ ends.0 ends.1 (falls_to_none _ to)
   no_move (blocks.Terminate by) values s ends to = absurd cc
@@ -265,7 +290,8 @@ module _ (p : Parts) (n b : ℕ) (t : Transaction) (none : IsNoTarget p.blocks b
   no_move (blocks.TransferToSubroutine c) values s ends to = leads_to_none p.blocks _ b _ to none
   no_move (blocks.TransferByParameter q) values s ends to = comes_back_to_none (parameter_at n q s.transactions) _ to
   no_move (blocks.Loop l) values s ends to = loops_to_none (parameter_at n l.parameter s.transactions) (loop_target t.next l.target) _ ends to
-  no_move (blocks.Split c) values s ends to = if_none (nat_le (live_count s.transactions + c.copies) 65536) _ (EndsBy Live) (le-leb _ 65536 ends) (falls_to_none _ to)
+  no_move (blocks.Split c) values s ends to =
+      if_none (nat_le (live_count s.transactions + c.copies) 65536) _ (EndsBy Live) (le-leb _ 65536 ends) (falls_to_none _ to)
   no_move (blocks.Assemble size) values s ends to = assembles_to_none size s (nat_le size 1) (assembly_at t.next t.set s) _ to
   no_move (blocks.Link l) values s ends to = absurd cc
   no_move (blocks.Savevalue a) values s ends to = then_none _ _ ends.0 (answers _ ends.0 ends.1) (falls_to_none _ to)
@@ -278,11 +304,13 @@ module _ (p : Parts) (n b : ℕ) (t : Transaction) (none : IsNoTarget p.blocks b
 
 pub move_to_no_target_stops : MoveToNoTargetStops
 move_to_no_target_stops j s u n b t block values streams tries read free ends to none =
-    stuck_at j s u n t block tries (no_effect j.parts n t block values streams u read free (no_move j.parts n b t none block values (with_streams streams u) ends to))
+    stuck_at j s u n t block tries
+    (no_effect j.parts n t block values streams u read free (no_move j.parts n b t none block values (with_streams streams u) ends to))
 
 leads_either : {A : Type 0} (bs : List Block) (a b c : ℕ) (o : Outcome A) → (a ≡ c) ⊎ (b ≡ c) → IsNoTarget bs c → leads bs a (leads bs b o) ≡ HasNoCase
 leads_either bs a b c o (inl first) none = leads_none bs a (leads bs b o) (subst (IsNoTarget bs) (sym first) none)
-leads_either bs a b c o (inr second) none = ap (leads bs a) (leads_none bs b o (subst (IsNoTarget bs) (sym second) none)) ∙ only_none (may_enter (block_at bs a))
+leads_either bs a b c o (inr second) none = ap (leads bs a) (leads_none bs b o (subst (IsNoTarget bs) (sym second) none))
+    ∙ only_none (may_enter (block_at bs a))
 
 pub choice_of_no_target_stops : ChoiceOfNoTargetStops
 unfolding effect
@@ -300,33 +328,38 @@ copies_to_no_target_stop j s u n t c tries some few none =
     stuck_at j s u n t (blocks.Split c) tries
     (no_effect j.parts n t (blocks.Split c) [] u.streams u refl refl
     (if_none (nat_le (live_count u.transactions + c.copies) 65536) _ (EndsBy Live) (le-leb _ 65536 few)
-    (ap (leads j.parts.blocks (t.next + 1)) (others_none j.parts.blocks c.copies (leads_to t.next (goes_or_falls c.target)) _ some none) ∙ only_none (may_enter (block_at j.parts.blocks (t.next + 1))))))
+    (ap (leads j.parts.blocks (t.next + 1)) (others_none j.parts.blocks c.copies (leads_to t.next (goes_or_falls c.target)) _ some none)
+    ∙ only_none (may_enter (block_at j.parts.blocks (t.next + 1))))))
 
 pub members_to_no_target_stop : MembersToNoTargetStop
 unfolding effect
 members_to_no_target_stop j s u n t taken tries some none =
     stuck_at j s u n t (blocks.Unlink taken) tries
     (no_effect j.parts n t (blocks.Unlink taken) [] u.streams u refl refl
-    (ap (leads j.parts.blocks (t.next + 1)) (others_none j.parts.blocks (taken_by taken u) taken.target _ some none) ∙ only_none (may_enter (block_at j.parts.blocks (t.next + 1)))))
+    (ap (leads j.parts.blocks (t.next + 1)) (others_none j.parts.blocks (taken_by taken u) taken.target _ some none)
+    ∙ only_none (may_enter (block_at j.parts.blocks (t.next + 1)))))
 
 -- PARAMETERS THAT AREN'T SET
 
 pub loop_by_unset_stops : LoopByUnsetStops
 unfolding effect
 loop_by_unset_stops j s u n t l tries unset =
-    stuck_at j s u n t (blocks.Loop l) tries (no_effect j.parts n t (blocks.Loop l) [] u.streams u refl refl (absent (parameter_at n l.parameter u.transactions) _ unset))
+    stuck_at j s u n t (blocks.Loop l) tries
+    (no_effect j.parts n t (blocks.Loop l) [] u.streams u refl refl (absent (parameter_at n l.parameter u.transactions) _ unset))
 
 pub return_by_unset_stops : ReturnByUnsetStops
 unfolding effect
 return_by_unset_stops j s u n q t tries unset =
-    stuck_at j s u n t (blocks.TransferByParameter q) tries (no_effect j.parts n t (blocks.TransferByParameter q) [] u.streams u refl refl (absent (parameter_at n q u.transactions) _ unset))
+    stuck_at j s u n t (blocks.TransferByParameter q) tries
+    (no_effect j.parts n t (blocks.TransferByParameter q) [] u.streams u refl refl (absent (parameter_at n q u.transactions) _ unset))
 
 module _ (p : Parts) (env : Environment) where
   the_only : (o : Operand) (streams : List ℕ) → OneLacksValue p env (o ∷ []) streams → operand_value p env o streams ≡ Unset
   the_only o streams (inl none) = lacks_value p env o streams none
   the_only o streams (inr later) = absurd later.2
 
-  in_order : {A : Type 0} (a b : Operand) (streams : List ℕ) (f : ℤ × List ℕ → ℤ × List ℕ → Evaluation A) → OneLacksValue p env (a ∷ b ∷ []) streams → (operand_value p env a streams then λ x. operand_value p env b x.1 then f x) ≡ Unset
+  in_order : {A : Type 0} (a b : Operand) (streams : List ℕ) (f : ℤ × List ℕ → ℤ × List ℕ → Evaluation A)
+      → OneLacksValue p env (a ∷ b ∷ []) streams → (operand_value p env a streams then λ x. operand_value p env b x.1 then f x) ≡ Unset
   in_order a b streams f (inl none) = ap (λ v. v then λ x. operand_value p env b x.1 then f x) (lacks_value p env a streams none)
   in_order a b streams f (inr later) =
       ap (λ v. v then λ x. operand_value p env b x.1 then f x) later.1
@@ -342,10 +375,13 @@ module _ (p : Parts) (env : Environment) where
   no_time : (time : Spread) (streams : List ℕ) → OneLacksValue p env (time.mean ∷ time.half ∷ []) streams → drawn_time p env time streams ≡ Unset
   no_time time streams lacks = in_order time.mean time.half streams _ lacks
 
-  no_moment : (time : Spread) (clock : ℤ) (streams : List ℕ) → OneLacksValue p env (time.mean ∷ time.half ∷ []) streams → drawn_moment p env time clock streams ≡ HasNoCase
-  no_moment time clock streams lacks = ap (λ v. evaluation_outcome v >>= λ d. moment_after clock d.0 >>= λ moment. Gives (moment, d.1)) (no_time time streams lacks)
+  no_moment : (time : Spread) (clock : ℤ) (streams : List ℕ) → OneLacksValue p env (time.mean ∷ time.half ∷ []) streams
+      → drawn_moment p env time clock streams ≡ HasNoCase
+  no_moment time clock streams lacks =
+      ap (λ v. evaluation_outcome v >>= λ d. moment_after clock d.0 >>= λ moment. Gives (moment, d.1)) (no_time time streams lacks)
 
-  no_values : (block : Block) (streams : List ℕ) → is_generate (Some block) ≡ false → OneLacksValue p env (evaluated_at p.entities block) streams → operands p env block streams ≡ Unset
+  no_values : (block : Block) (streams : List ℕ) → is_generate (Some block) ≡ false
+      → OneLacksValue p env (evaluated_at p.entities block) streams → operands p env block streams ≡ Unset
   no_values (blocks.Generate g) streams other lacks = absurd cc
   no_values (blocks.Terminate by) streams other lacks = single by streams lacks
   no_values (blocks.Advance time) streams other lacks = ap (λ v. v then λ time. Value (single_value time)) (no_time time streams lacks)
@@ -361,34 +397,41 @@ pub operand_without_value_stops : OperandWithoutValueStops
 unfolding act
 operand_without_value_stops j s u n t block tries other lacks =
     stuck_at j s u n t block tries
-    (ap (λ o. evaluation_outcome o >>= λ read. meets j.parts n t block read.0 (with_streams read.1 u)) (no_values j.parts (environment_of n t u) block u.streams other lacks))
+    (ap (λ o. evaluation_outcome o >>= λ read. meets j.parts n t block read.0 (with_streams read.1 u))
+    (no_values j.parts (environment_of n t u) block u.streams other lacks))
 
 pub interval_without_value_stops : IntervalWithoutValueStops
 unfolding effect
 interval_without_value_stops j s u n t g tries owed lacks =
     stuck_at j s u n t (blocks.Generate g) tries
     (no_effect j.parts n t (blocks.Generate g) [] u.streams u refl refl
-    (bind_none _ _ (if_none (is_owed g.limit (at 0 u.scheduled t.next)) _ _ owed (bind_none _ _ (no_moment j.parts (environment_of_next g.priority u) g.interval u.clock u.streams lacks)))))
+    (bind_none _ _ (if_none (is_owed g.limit (at 0 u.scheduled t.next)) _ _ owed
+    (bind_none _ _ (no_moment j.parts (environment_of_next g.priority u) g.interval u.clock u.streams lacks)))))
 
 -- THE START
 
-module _ (p : Parts) (g : Generate) (after : List Block) (s : State) (first : g.first ≡ None) (lacks : OneLacksValue p (environment_of_next g.priority s) (g.interval.mean ∷ g.interval.half ∷ []) s.streams) where
+module _ (p : Parts) (g : Generate) (after : List Block) (s : State) (first : g.first ≡ None)
+    (lacks : OneLacksValue p (environment_of_next g.priority s) (g.interval.mean ∷ g.interval.half ∷ []) s.streams) where
   arrives_never : (b : ℕ) → first_arrival p b (blocks.Generate g) s ≡ HasNoCase
   arrives_never b =
       bind_none _ _ (ap (first_moment p g s) first ∙ no_moment p (environment_of_next g.priority s) g.interval s.clock s.streams lacks)
 
-  goes_wrong : (before behind : State → Outcome State) (o : Outcome State) → ((u : State) → before u ≡ Gives s → behind u ≡ HasNoCase) → (o >>= before) ≡ Gives s → (o >>= behind) ≡ HasNoCase
+  goes_wrong : (before behind : State → Outcome State) (o : Outcome State) → ((u : State) → before u ≡ Gives s → behind u ≡ HasNoCase)
+      → (o >>= before) ≡ Gives s → (o >>= behind) ≡ HasNoCase
   goes_wrong before behind (Gives u) then_ is = then_ u is
   goes_wrong before behind (EndsBy end) then_ is = absurd cc
   goes_wrong before behind HasNoCase then_ is = absurd cc
 
-  never_arrive : (b : ℕ) (before : List Block) (from : State) → first_arrivals p b before from ≡ Gives s → first_arrivals p b (before ++ blocks.Generate g ∷ after) from ≡ HasNoCase
+  never_arrive : (b : ℕ) (before : List Block) (from : State) → first_arrivals p b before from ≡ Gives s
+      → first_arrivals p b (before ++ blocks.Generate g ∷ after) from ≡ HasNoCase
   unfolding first_arrivals
   never_arrive b [] from is =
       let same : from ≡ s = cc in
-      subst (λ x. (first_arrival p b (blocks.Generate g) x >>= first_arrivals p (b + 1) after) ≡ HasNoCase) (sym same) (ap (λ o. o >>= first_arrivals p (b + 1) after) (arrives_never b))
+      subst (λ x. (first_arrival p b (blocks.Generate g) x >>= first_arrivals p (b + 1) after) ≡ HasNoCase) (sym same)
+      (ap (λ o. o >>= first_arrivals p (b + 1) after) (arrives_never b))
   never_arrive b (block ∷ before) from is =
-      goes_wrong (first_arrivals p (b + 1) before) (first_arrivals p (b + 1) (before ++ blocks.Generate g ∷ after)) (first_arrival p b block from) (λ u there. never_arrive (b + 1) before u there) is
+      goes_wrong (first_arrivals p (b + 1) before) (first_arrivals p (b + 1) (before ++ blocks.Generate g ∷ after))
+      (first_arrival p b block from) (λ u there. never_arrive (b + 1) before u there) is
 
 pub arrival_without_value_has_no_start : ArrivalWithoutValueHasNoStart
 arrival_without_value_has_no_start j before after g s are arrive first lacks =

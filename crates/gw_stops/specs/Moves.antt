@@ -1,5 +1,6 @@
 -- Where who enters a block goes on to, and when no named end comes before.
-use Rattle.std.specs.Prelude.{◌≡◌, ◌⊎◌, ℕ, ◌+◌, ◌≤◌, ℤ, pos, ◌-ℤ◌, List, Option, Some, None, Ok, Bool, true, is_some, unwrap_or, nat_le, not, ◌&&◌, if◌then◌else◌, IfSome}
+use Rattle.std.specs.Prelude.{◌≡◌, ◌⊎◌, ℕ, ◌+◌, ◌≤◌, ℤ, pos, ◌-ℤ◌, List, Option, Some, None, Ok, Bool, true, is_some, unwrap_or, nat_le, not, ◌&&◌}
+use Rattle.std.specs.Prelude.{if◌then◌else◌, IfSome}
 use Rattle.std.specs.Option.{option_map}
 use Rattle.gw_blocks.specs.declared.parts.Generate.{Generate}
 use Rattle.gw_blocks.specs.declared.parts.Both.{Both}
@@ -26,7 +27,8 @@ IsNoTarget bs b = (block_at bs b ≡ None) ⊎ ((g : Generate) × (block_at bs b
 abbrev pub is_awaited : Transaction → ℕ → State → Bool
 is_awaited t size s = not (nat_le size 1) && is_some (assembly_at t.next t.set s)
 
--- the number of the block to which the transaction n, which is t, goes on that enters a block with these operand values; none where it is destroyed, joins a user chain, or has two to go on to
+-- the number of the block to which the transaction n, which is t, goes on that enters a block with these operand
+-- values; none where it is destroyed, joins a user chain, or has two to go on to
 abbrev pub goes_on_to : ℕ → Transaction → Block → List ℤ → State → Option ℕ
 goes_on_to n t (blocks.Terminate by) values s = None
 goes_on_to n t (blocks.Link l) values s = None
@@ -49,7 +51,8 @@ IsOneOfTwo b two to = (leads_to b (goes_or_falls two.first) ≡ to) ⊎ (two.sec
 abbrev pub ComesToNoEnd : Parts → ℕ → Transaction → Block → List ℤ → State → Type 0
 ComesToNoEnd p n t (blocks.Generate g) values s = (after : State) × (next_arrival p t.next g s ≡ Gives after)
 ComesToNoEnd p n t (blocks.Advance time) values s = (moment : ℤ) × (moment_after s.clock (the_value values) ≡ Gives moment)
-ComesToNoEnd p n t (blocks.Assign a) values s = (new : ℤ) × (put_by a.mode (unwrap_or (parameter_at n a.parameter s.transactions) (pos 0)) (the_value values) ≡ Ok new)
+ComesToNoEnd p n t (blocks.Assign a) values s = (new : ℤ)
+    × (put_by a.mode (unwrap_or (parameter_at n a.parameter s.transactions) (pos 0)) (the_value values) ≡ Ok new)
 ComesToNoEnd p n t (blocks.Savevalue a) values s = (new : ℤ) × (put_by a.mode (savevalue a.savevalue s) (the_value values) ≡ Ok new)
 ComesToNoEnd p n t (blocks.Loop l) values s = IfSome (parameter_at n l.parameter s.transactions) (λ old. difference_of old (pos 1) ≡ Ok (old -ℤ pos 1))
 ComesToNoEnd p n t (blocks.Priority a) values s = is_priority (the_value values) ≡ true

@@ -144,5 +144,6 @@ IntervalWithoutValueStops =
 -- where the time of the first arrival of a GENERATE has no value, and those before it have their arrivals, there is no start
 abbrev pub ArrivalWithoutValueHasNoStart : Type 0
 ArrivalWithoutValueHasNoStart =
-    (j : Job) (before after : List Block) (g : Generate) (s : State) → j.parts.blocks ≡ before ++ blocks.Generate g ∷ after → first_arrivals j.parts 1 before (nothing j.parts j.count j.streams) ≡ Gives s
+    (j : Job) (before after : List Block) (g : Generate) (s : State) → j.parts.blocks ≡ before ++ blocks.Generate g ∷ after
+    → first_arrivals j.parts 1 before (nothing j.parts j.count j.streams) ≡ Gives s
     → g.first ≡ None → OneLacksValue j.parts (environment_of_next g.priority s) (g.interval.mean ∷ g.interval.half ∷ []) s.streams → start_of j ≡ None

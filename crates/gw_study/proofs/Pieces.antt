@@ -15,8 +15,14 @@ more : (P : ℕ → Label → List ℕ → Type 0) (place n : ℕ) (figures : Li
 more P place n [] figure text piece none is h =
     let there : n ≡ place = omega (arith, is) in
     (piece, [], subst (λ (k : ℕ). P k figure piece) there h, refl, ap (λ t. t ++ piece) none ∙ sym (append-nil piece))
-more P place n (x ∷ figures) figure text piece (first, rest, own, others, joined) is h =
-    (first, rest ++ piece, own, more P (place + 1) n figures figure rest piece others (omega (arith, is)) h, ap (λ t. t ++ piece) joined ∙ append_assoc first rest piece)
+more P place n (x ∷ figures) figure text piece (first, rest, own, others, joined) is h = (
+  first,
+  rest ++ piece,
+  own,
+  more P (place + 1) n figures figure rest piece others (omega (arith, is)) h,
+  ap (λ t. t ++ piece) joined
+      ∙ append_assoc first rest piece,
+)
 
 pub piece_more : (P : ℕ → Label → List ℕ → Type 0) (n : ℕ) (figures : List Label) (figure : Label) (old now new : List ℕ)
     → Adds (ArePieces P 0 figures) old now → length figures ≡ n → Adds (P n figure) now new → Adds (ArePieces P 0 (figures ++ figure ∷ [])) old new

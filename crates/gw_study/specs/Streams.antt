@@ -1,6 +1,7 @@
 -- How many numbers a run may have drawn from a stream, and whether it may have come to where the next begins.
 -- A run is told here by its steps and its values.
-use Rattle.std.specs.Prelude.{◌≡◌, ◌<◌, length, ℕ, zero, suc, ◌+◌, ◌-◌, ◌*◌, ◌/◌, ◌%◌, ◌^◌, min, nat_lt, ◌==◌, List, [], ◌∷◌, ◌++◌, codes, Bool, false, ℤ, pos, negsuc, Option, None, Some, is_none, option_to_list, if◌then◌else◌}
+use Rattle.std.specs.Prelude.{◌≡◌, ◌<◌, length, ℕ, zero, suc, ◌+◌, ◌-◌, ◌*◌, ◌/◌, ◌%◌, ◌^◌, min, nat_lt, ◌==◌, List, [], ◌∷◌, ◌++◌, codes, Bool}
+use Rattle.std.specs.Prelude.{false, ℤ, pos, negsuc, Option, None, Some, is_none, option_to_list, if◌then◌else◌}
 use Rattle.std.specs.Fmt.{decimal}
 use Rattle.gw_blocks.specs.declared.parts.Block.{Block}
 use Rattle.gw_blocks.specs.declared.parts.Block.TheVariants.{Test}

@@ -1,5 +1,6 @@
 -- The table of a study.
-use Rattle.std.specs.Prelude.{◌≡◌, ◌⊎◌, ℕ, ◌+◌, ◌-◌, ◌*◌, ◌/◌, ◌%◌, min, ◌==◌, nat_lt, nat_le, int_lt, pos, List, [], ◌∷◌, ◌++◌, length, map, codes, Bool, false, ◌||◌, ◌&&◌, ℤ, unsigned_abs, Option, None, Some, Contains, MatchBool, MatchOption, Vec, if◌then◌else◌}
+use Rattle.std.specs.Prelude.{◌≡◌, ◌⊎◌, ℕ, ◌+◌, ◌-◌, ◌*◌, ◌/◌, ◌%◌, min, ◌==◌, nat_lt, nat_le, int_lt, pos, List, [], ◌∷◌, ◌++◌, length, map, codes}
+use Rattle.std.specs.Prelude.{Bool, false, ◌||◌, ◌&&◌, ℤ, unsigned_abs, Option, None, Some, Contains, MatchBool, MatchOption, Vec, if◌then◌else◌}
 use Rattle.std.specs.Borrow.{Bor}
 use Rattle.std.specs.Fmt.{decimal}
 use Rattle.std.specs.Global.{Global}

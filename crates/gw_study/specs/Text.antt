@@ -1,5 +1,6 @@
 -- The lines of a study.
-use Rattle.std.specs.Prelude.{ℕ, suc, ◌+◌, ◌-◌, ◌^◌, ◌/◌, ◌%◌, min, nat_le, nat_lt, List, [], ◌∷◌, ◌++◌, length, replicate, codes, ℤ, pos, negsuc, neg_ℤ, unsigned_abs, Option, None, Some, if◌then◌else◌}
+use Rattle.std.specs.Prelude.{ℕ, suc, ◌+◌, ◌-◌, ◌^◌, ◌/◌, ◌%◌, min, nat_le, nat_lt, List, [], ◌∷◌, ◌++◌, length, replicate, codes, ℤ, pos, negsuc}
+use Rattle.std.specs.Prelude.{neg_ℤ, unsigned_abs, Option, None, Some, if◌then◌else◌}
 use Rattle.std.specs.Fmt.{decimal}
 use Rattle.gw_statistics.specs.declared.summary.Summary.{Summary}
 

@@ -1,5 +1,6 @@
 -- What rows of one study tell.
-use Rattle.std.specs.Prelude.{◌≡◌, ◌⊎◌, ◌≤◌, ◌<◌, ℕ, ◌+◌, ◌-◌, ◌/◌, ◌%◌, nat_le, List, [], ◌∷◌, length, vec_len, slice_get, Option, None, Some, Bool, Vec, Result, IfOk, OnOk}
+use Rattle.std.specs.Prelude.{◌≡◌, ◌⊎◌, ◌≤◌, ◌<◌, ℕ, ◌+◌, ◌-◌, ◌/◌, ◌%◌, nat_le, List, [], ◌∷◌, length, vec_len, slice_get, Option, None, Some, Bool}
+use Rattle.std.specs.Prelude.{Vec, Result, IfOk, OnOk}
 use Rattle.std.specs.Global.{Global}
 use Rattle.std.specs.List.{All}
 use Rattle.gw_answers.specs.Status.{end_status, refusal_status}
@@ -129,7 +130,8 @@ AddsTables rows study request points differences old new =
     (told : List Point) × TellsPoints rows study request points told old new × AddsAllDifferences request.all told [] differences
 
 -- where all went well, the tables of points are put behind a text, and these are their differences
-abbrev pub PutsTables : {E : Type 0} → Result (Unit {0}) E → Rows → Study → SummaryRequest → List PointRows → Vec ℕ Global → Vec ℕ Global → Vec ℕ Global → Type 0
+abbrev pub PutsTables : {E : Type 0} → Result (Unit {0}) E → Rows → Study → SummaryRequest → List PointRows → Vec ℕ Global → Vec ℕ Global
+    → Vec ℕ Global → Type 0
 PutsTables result rows study request points differences old new =
     OnOk result (AddsTables rows study request points differences.items old.items new.items)
 

@@ -1,5 +1,6 @@
 -- What is known of statements with one more.
-use Rattle.std.proofs.Common.{◌≡◌, ℕ, ◌+◌, ◌<◌, List, [], ◌∷◌, ◌++◌, length, get_or, Bool, true, false, ◌||◌, cond, if◌then◌else◌, arith, refl, sym, ap, ◌∙◌, count_by, bytes_eq, Option, Some, None, AllPairs, inl, inr}
+use Rattle.std.proofs.Common.{◌≡◌, ℕ, ◌+◌, ◌<◌, List, [], ◌∷◌, ◌++◌, length, get_or, Bool, true, false, ◌||◌, cond, if◌then◌else◌, arith, refl, sym}
+use Rattle.std.proofs.Common.{ap, ◌∙◌, count_by, bytes_eq, Option, Some, None, AllPairs, inl, inr}
 use Rattle.std.specs.List.{list_any}
 use Rattle.std.specs.BTreeSet.{contains_text}
 use Rattle.std.proofs.lemmas.Bool.{cases_Bool, false≢true}
@@ -32,7 +33,8 @@ labels_push : (reader after : Reader) (label : Option (List ℕ)) (others : List
     → contains_text reader.labels other ≡ others other → Labelled reader.labels after.labels label
     → contains_text after.labels other ≡ (others other || is_label other label)
 labels_push reader after None others other known h = h other ∙ known ∙ sym (or_false (others other))
-labels_push reader after (Some label) others other known h = h.1 other ∙ ap (cond (bytes_eq label other) true) known ∙ turned (bytes_eq label other) (others other)
+labels_push reader after (Some label) others other known h = h.1 other ∙ ap (cond (bytes_eq label other) true) known
+    ∙ turned (bytes_eq label other) (others other)
   where
     turned : (a b : Bool) → cond a true b ≡ (b || a)
     turned true true = refl

@@ -1,5 +1,6 @@
 -- Statements in the order of their lines, as they are read line by line.
-use Rattle.std.proofs.Common.{◌≡◌, ℕ, ◌+◌, ◌<◌, ◌≤◌, List, [], ◌∷◌, ◌++◌, length, get_or, Bool, true, false, ◌||◌, arith, refl, ap, ◌∙◌, below_more, zero, suc, Option, Some, None, AllPairs}
+use Rattle.std.proofs.Common.{◌≡◌, ℕ, ◌+◌, ◌<◌, ◌≤◌, List, [], ◌∷◌, ◌++◌, length, get_or, Bool, true, false, ◌||◌, arith, refl, ap, ◌∙◌, below_more}
+use Rattle.std.proofs.Common.{zero, suc, Option, Some, None, AllPairs}
 use Rattle.std.specs.List.{All, list_any}
 use Rattle.std.proofs.lemmas.List.Folds.{list_any-append}
 use Rattle.std.proofs.lemmas.List.Elements.{All-append}
@@ -8,7 +9,8 @@ use Rattle.gw_text.specs.declared.model.Statement.{Statement}
 use Rattle.gw_text_tokens.specs.Lines.{is_skipped, IsShort}
 use Rattle.gw_text.specs.declared.reader.Reader.{Reader}
 use Rattle.gw_text.specs.Knowing.{Admits, Knows, KnowsMore}
-use Rattle.gw_text.specs.Reading.{stands_on, GoesOnAsItMay, HasItsWord, BeginsAt, IsFoundAt, with_found, last_with_found, IsInOrder, label_of, LabelsDiffer, MayFollow, StandOn}
+use Rattle.gw_text.specs.Reading.{stands_on, GoesOnAsItMay, HasItsWord, BeginsAt, IsFoundAt, with_found, last_with_found, IsInOrder, label_of}
+use Rattle.gw_text.specs.Reading.{LabelsDiffer, MayFollow, StandOn}
 use Rattle.gw_text.proofs.Known.{labels_differ_push, may_follow_push}
 
 -- the last line of statements, or the line before them

@@ -1,5 +1,6 @@
 -- FUNCTION and PROCEDURE, of which each may stand anywhere, and statements on one line.
-use Rattle.std.proofs.Common.{◌≡◌, ℕ, ◌≤◌, ◌<◌, List, [], false, slice_index_or, Option, Result, Ok, Err, IfOk, MatchResult, option_map, string_bytes, inl, arith, refl, sym, subst, ◌∙◌}
+use Rattle.std.proofs.Common.{◌≡◌, ℕ, ◌≤◌, ◌<◌, List, [], false, slice_index_or, Option, Result, Ok, Err, IfOk, MatchResult, option_map, string_bytes}
+use Rattle.std.proofs.Common.{inl, arith, refl, sym, subst, ◌∙◌}
 use Rattle.gw_text_tokens.specs.declared.words.Word.{Word}
 use Rattle.gw_text_tokens.specs.declared.words.Word.TheVariants as words
 use Rattle.gw_text_tokens.specs.declared.faults.Stop.{Stop}

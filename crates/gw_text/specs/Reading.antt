@@ -1,5 +1,6 @@
 -- How a model's statements stand on the lines of its text, and where a text is refused.
-use Rattle.std.specs.Prelude.{◌≡◌, ℕ, ◌+◌, ◌-◌, ◌<◌, ◌≤◌, List, [], ◌∷◌, ◌++◌, length, slice_index_or, Bool, true, false, ◌&&◌, nat_le, ◌⊎◌, Option, Some, None, Result, MatchResult, AllPairs, count_by, option_map, string_bytes, bytes_eq}
+use Rattle.std.specs.Prelude.{◌≡◌, ℕ, ◌+◌, ◌-◌, ◌<◌, ◌≤◌, List, [], ◌∷◌, ◌++◌, length, slice_index_or, Bool, true, false, ◌&&◌, nat_le, ◌⊎◌, Option}
+use Rattle.std.specs.Prelude.{Some, None, Result, MatchResult, AllPairs, count_by, option_map, string_bytes, bytes_eq}
 use Rattle.std.specs.List.{All, list_any}
 use Rattle.gw_object.specs.declared.fault.Fault.{Fault}
 use Rattle.gw_object.specs.declared.fault.Place.{Place}

@@ -30,7 +30,8 @@ traced_more from to j k s t old new same alone step traced is =
     ∙ ap (λ (i : Job). heading ++ lines_of_steps i from to t.steps) (sym same)
 
 -- before the first step there is the heading alone
-pub traced_first : (from to : ℤ) (j : Job) (s : State) (text : List ℕ) → start_of j ≡ Some s → text ≡ heading → HasTraced from to (record { job = j; state = s }) text
+pub traced_first : (from to : ℤ) (j : Job) (s : State) (text : List ℕ) → start_of j ≡ Some s → text ≡ heading
+    → HasTraced from to (record { job = j; state = s }) text
 unfolding lines_of_steps
 traced_first from to j s text started is =
     let none : s.steps ≡ 0 = start_steps j s started in

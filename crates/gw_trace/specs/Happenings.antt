@@ -30,7 +30,8 @@ or_second (Some b) second = Some b
 abbrev pub either_entered : Choice → State → Option ℕ
 either_entered before after = or_second (entered_since before.first after) (entered_since before.second after)
 
--- the block that was entered by who had entered this TRANSFER BOTH, if it entered one: the one where it is, if it is still active; else the one that has more entries
+-- the block that was entered by who had entered this TRANSFER BOTH, if it entered one: the one where it is, if it is
+-- still active; else the one that has more entries
 abbrev pub entered_by : ℕ → Choice → State → Option Transaction → Option ℕ
 entered_by both before after None = either_entered before after
 entered_by both before after (Some t) = if t.current == both then None else Some t.current

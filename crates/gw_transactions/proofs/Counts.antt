@@ -8,7 +8,8 @@ module _ (items counts : List ℕ) (is : items ≡ counts) (block : ℕ) where
   -- a count that isn't 0 has a place in the table
   pub counted_within : 0 < at 0 counts block → block < length items
   counted_within some =
-      elim (cases_lt block (length items)) [ inl less ↦ less | inr past ↦ absurd (omega (arith, some, at_past 0 items block past, ap (λ xs. at 0 xs block) is)) ]
+      elim (cases_lt block (length items))
+      [ inl less ↦ less | inr past ↦ absurd (omega (arith, some, at_past 0 items block past, ap (λ xs. at 0 xs block) is)) ]
 
   module _ (there : block < length items) (was : ℕ) (read : was ≡ get_or items block was) where
     pub count-is : was ≡ at 0 counts block

@@ -16,7 +16,8 @@ module _ {Y Z : Type 0} (h : Y → Z) where
   none_listed (suc n) = none_listed n
 
   -- one more in a table is one more of those that are there
-  listed-put : (xs : List (Option Y)) (n : ℕ) (y : Y) → at None xs n ≡ None → IsPermutation (filter_map (option_map h) (put None xs n (Some y))) (h y ∷ filter_map (option_map h) xs)
+  listed-put : (xs : List (Option Y)) (n : ℕ) (y : Y) → at None xs n ≡ None
+      → IsPermutation (filter_map (option_map h) (put None xs n (Some y))) (h y ∷ filter_map (option_map h) xs)
   listed-put [] zero y free = IsPermutation-refl _
   listed-put [] (suc n) y free = listed-put [] n y refl
   listed-put (None ∷ xs) zero y free = IsPermutation-refl _
@@ -27,11 +28,13 @@ module _ {Y Z : Type 0} (h : Y → Z) where
       IsPermutation-trans _ _ _ (IsPermutation-cons (h x) _ _ (listed-put xs n y free)) (IsPermutation-insert (h y ∷ others) 1 (h x))
 
 -- the keys of a slab's entries don't matter
-pub listed_slots : (beside : Slab Numbered) (next place key : ℕ) (slots : List (Option (ℕ × Kept))) → AreNumbered slots next → IsPermutation (listed_transactions (by_number (λ place kept. live_as beside kept) next place slots)) (map (listed_in beside) (entries_from key slots))
+pub listed_slots : (beside : Slab Numbered) (next place key : ℕ) (slots : List (Option (ℕ × Kept))) → AreNumbered slots next
+    → IsPermutation (listed_transactions (by_number (λ place kept. live_as beside kept) next place slots)) (map (listed_in beside) (entries_from key slots))
 listed_slots beside next place key [] num = subst (λ all. IsPermutation all []) (sym (none_listed listed_as next)) (IsPermutation-refl [])
 listed_slots beside next place key (None ∷ slots) num = listed_slots beside next (suc place) _ slots (numbered_tail None slots next num)
 listed_slots beside next place key (Some slot ∷ slots) num =
     let entry = λ (place : ℕ) (kept : Kept). live_as beside kept in
     IsPermutation-trans _ _ _
-    (listed-put listed_as (by_number entry next (suc place) slots) slot.0 (live_as beside slot.1) (at-by_number_free entry next (suc place) slot.0 slots (free_tail slot slots next num)))
+    (listed-put listed_as (by_number entry next (suc place) slots) slot.0 (live_as beside slot.1)
+    (at-by_number_free entry next (suc place) slot.0 slots (free_tail slot slots next num)))
     (IsPermutation-cons (listed_as (live_as beside slot.1)) _ _ (listed_slots beside next (suc place) _ slots (numbered_tail (Some slot) slots next num)))

@@ -21,14 +21,28 @@ room-beside last slots beside some = rw (a_last last some) (omega arith)
 
 pub room-most : (last slots beside n : ℕ) → n ≤ slots → (0 < last → n ≤ beside) → n ≤ room_of last slots beside
 room-most last slots beside n fits fits_beside =
-    elim (cases_lt 0 last) [ inl some ↦ rw (a_last last some) (omega (arith, fits, fits_beside some)) | inr past ↦ rw (no_last last past) (omega (arith, fits)) ]
+    elim (cases_lt 0 last) [
+      | inl some ↦ rw (a_last last some) (omega (arith, fits, fits_beside some))
+      | inr past ↦
+          rw (no_last last past) (omega (arith, fits))
+    ]
 
 -- room of both kinds falls by one at most
-pub room-falls : (last slots beside new new_beside : ℕ) → slots ≤ new + 1 → (0 < last → beside ≤ new_beside + 1) → room_of last slots beside ≤ room_of last new new_beside + 1
+pub room-falls : (last slots beside new new_beside : ℕ) → slots ≤ new + 1 → (0 < last → beside ≤ new_beside + 1)
+    → room_of last slots beside ≤ room_of last new new_beside + 1
 room-falls last slots beside new new_beside less less_beside =
-    elim (cases_lt 0 last) [ inl some ↦ rw (a_last last some) (omega (arith, less, less_beside some)) | inr past ↦ rw (no_last last past) (omega (arith, less)) ]
+    elim (cases_lt 0 last) [
+      | inl some ↦ rw (a_last last some) (omega (arith, less, less_beside some))
+      | inr past ↦
+          rw (no_last last past) (omega (arith, less))
+    ]
 
 -- or rises
-pub room-rises : (last slots beside new new_beside : ℕ) → slots < new → (0 < last → beside < new_beside) → room_of last slots beside < room_of last new new_beside
+pub room-rises : (last slots beside new new_beside : ℕ) → slots < new → (0 < last → beside < new_beside) → room_of last slots beside
+    < room_of last new new_beside
 room-rises last slots beside new new_beside more more_beside =
-    elim (cases_lt 0 last) [ inl some ↦ rw (a_last last some) (omega (arith, more, more_beside some)) | inr past ↦ rw (no_last last past) (omega (arith, more)) ]
+    elim (cases_lt 0 last) [
+      | inl some ↦ rw (a_last last some) (omega (arith, more, more_beside some))
+      | inr past ↦
+          rw (no_last last past) (omega (arith, more))
+    ]

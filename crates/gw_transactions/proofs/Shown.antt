@@ -1,5 +1,6 @@
 -- Parameters as they are kept: slots and a mask.
-use Rattle.std.proofs.Common.{◌≡◌, ◌≢◌, ℕ, zero, suc, ◌+◌, ◌-◌, ◌<◌, ◌≤◌, ◌==◌, if◌then◌else◌, ℤ, pos, List, [], ◌∷◌, length, replicate, set, get_or, Some, None, Bool, true, false, refl, sym, ap, ◌∙◌, subst, arith}
+use Rattle.std.proofs.Common.{◌≡◌, ◌≢◌, ℕ, zero, suc, ◌+◌, ◌-◌, ◌<◌, ◌≤◌, ◌==◌, if◌then◌else◌, ℤ, pos, List, [], ◌∷◌, length, replicate, set, get_or}
+use Rattle.std.proofs.Common.{Some, None, Bool, true, false, refl, sym, ap, ◌∙◌, subst, arith}
 use Rattle.std.specs.Prelude.{unwrap_or}
 use Rattle.std.specs.Option.{IsSome}
 use Rattle.std.specs.Int.{bit_at}
@@ -26,7 +27,8 @@ bit_slot (suc zero) v few unset = refl
 bit_slot (suc (suc bit)) v few unset = absurd (omega (arith, few))
 
 -- a slot that isn't set is 0, so that no test tells the two apart
-pub value_or_zero : (k m p : ℕ) (vs : List ℤ) → p < length vs → ((i : ℕ) → bit_at m (k + i) ≡ 0 → at (pos 0) vs i ≡ pos 0) → unwrap_or (at None (shown_from k m vs) p) (pos 0) ≡ at (pos 0) vs p
+pub value_or_zero : (k m p : ℕ) (vs : List ℤ) → p < length vs → ((i : ℕ) → bit_at m (k + i) ≡ 0 → at (pos 0) vs i ≡ pos 0)
+    → unwrap_or (at None (shown_from k m vs) p) (pos 0) ≡ at (pos 0) vs p
 value_or_zero k m p [] below unset = absurd (omega (arith, below))
 value_or_zero k m zero (v ∷ vs) below unset =
     let here : k + 0 ≡ k = omega arith in bit_slot (bit_at m k) v (bit_at-lt m k) (λ none. unset 0 (ap (bit_at m) here ∙ none))
@@ -38,9 +40,11 @@ value_or_zero k m (suc p) (v ∷ vs) below unset =
 same_shown : (k m n : ℕ) (vs : List ℤ) → ((i : ℕ) → k ≤ i → bit_at n i ≡ bit_at m i) → shown_from k n vs ≡ shown_from k m vs
 same_shown k m n [] same = refl
 same_shown k m n (v ∷ vs) same =
-    ap (λ b. slot b v ∷ shown_from (suc k) n vs) (same k (omega arith)) ∙ ap (λ xs. slot (bit_at m k) v ∷ xs) (same_shown (suc k) m n vs (λ i past. same i (omega (arith, past))))
+    ap (λ b. slot b v ∷ shown_from (suc k) n vs) (same k (omega arith))
+    ∙ ap (λ xs. slot (bit_at m k) v ∷ xs) (same_shown (suc k) m n vs (λ i past. same i (omega (arith, past))))
 
-pub put-shown : (k m n p : ℕ) (x : ℤ) (vs : List ℤ) → p < length vs → bit_at n (k + p) ≡ 1 → ((i : ℕ) → i ≢ k + p → bit_at n i ≡ bit_at m i) → shown_from k n (set vs p x) ≡ put None (shown_from k m vs) p (Some x)
+pub put-shown : (k m n p : ℕ) (x : ℤ) (vs : List ℤ) → p < length vs → bit_at n (k + p) ≡ 1
+    → ((i : ℕ) → i ≢ k + p → bit_at n i ≡ bit_at m i) → shown_from k n (set vs p x) ≡ put None (shown_from k m vs) p (Some x)
 put-shown k m n p x [] below one others = absurd (omega (arith, below))
 put-shown k m n zero x (v ∷ vs) below one others =
     let here : k + 0 ≡ k = omega arith in
@@ -49,11 +53,14 @@ put-shown k m n zero x (v ∷ vs) below one others =
 put-shown k m n (suc p) x (v ∷ vs) below one others =
     let next : suc k + p ≡ k + suc p = omega arith in
     ap (λ b. slot b v ∷ shown_from (suc k) n (set vs p x)) (others k (λ is. absurd (omega (arith, is))))
-    ∙ ap (λ xs. slot (bit_at m k) v ∷ xs) (put-shown (suc k) m n p x vs (omega (arith, below)) (ap (bit_at n) next ∙ one) (λ i other. others i (λ is. other (is ∙ sym next))))
+    ∙ ap (λ xs. slot (bit_at m k) v ∷ xs)
+    (put-shown (suc k) m n p x vs (omega (arith, below)) (ap (bit_at n) next ∙ one) (λ i other. others i (λ is. other (is ∙ sym next))))
 
 -- a slot that isn't set stays 0
-pub set-unset : (m n p : ℕ) (x : ℤ) (vs : List ℤ) → bit_at n p ≡ 1 → ((i : ℕ) → i ≢ p → bit_at n i ≡ bit_at m i) → ((i : ℕ) → bit_at m i ≡ 0 → at (pos 0) vs i ≡ pos 0) → (i : ℕ) → bit_at n i ≡ 0 → at (pos 0) (set vs p x) i ≡ pos 0
-set-unset m n p x vs one others unset i none = elsewhere vs p i (λ is. absurd (omega (arith, ap (bit_at n) is, one, none))) ∙ unset i (sym (others i (λ is. absurd (omega (arith, ap (bit_at n) is, one, none)))) ∙ none)
+pub set-unset : (m n p : ℕ) (x : ℤ) (vs : List ℤ) → bit_at n p ≡ 1 → ((i : ℕ) → i ≢ p → bit_at n i ≡ bit_at m i)
+    → ((i : ℕ) → bit_at m i ≡ 0 → at (pos 0) vs i ≡ pos 0) → (i : ℕ) → bit_at n i ≡ 0 → at (pos 0) (set vs p x) i ≡ pos 0
+set-unset m n p x vs one others unset i none = elsewhere vs p i (λ is. absurd (omega (arith, ap (bit_at n) is, one, none)))
+    ∙ unset i (sym (others i (λ is. absurd (omega (arith, ap (bit_at n) is, one, none)))) ∙ none)
   where
     elsewhere : (vs : List ℤ) (p i : ℕ) → i ≢ p → at (pos 0) (set vs p x) i ≡ at (pos 0) vs i
     elsewhere [] p i other = refl
@@ -86,19 +93,22 @@ pub is_there : (m number : ℕ) (vs : List ℤ) → IsSome (at None (None ∷ sh
 is_there m zero vs set = absurd (cc)
 is_there m (suc p) vs set = let within = (set_value 0 m p vs set).0 in (omega arith, omega (arith, within))
 
-pub value_is : (m number : ℕ) (vs : List ℤ) (v : ℤ) → IsSome (at None (None ∷ shown_from 0 m vs) number) → v ≡ get_or vs (number - 1) v → at None (None ∷ shown_from 0 m vs) number ≡ Some v
+pub value_is : (m number : ℕ) (vs : List ℤ) (v : ℤ) → IsSome (at None (None ∷ shown_from 0 m vs) number) → v ≡ get_or vs (number - 1) v
+    → at None (None ∷ shown_from 0 m vs) number ≡ Some v
 value_is m zero vs v set is = absurd (cc)
 value_is m (suc p) vs v set is =
     let at_place : suc p - 1 ≡ p = omega arith in
     let read = set_value 0 m p vs set in
     read.1 ∙ ap (λ x. Some x) (at_slot vs p v read.0 (rw at_place at is))
 
-pub zero_or_value : (m number : ℕ) (vs : List ℤ) (v : ℤ) → 1 ≤ number → number ≤ length vs → ((i : ℕ) → bit_at m i ≡ 0 → at (pos 0) vs i ≡ pos 0) → v ≡ get_or vs (number - 1) v → v ≡ unwrap_or (at None (None ∷ shown_from 0 m vs) number) (pos 0)
+pub zero_or_value : (m number : ℕ) (vs : List ℤ) (v : ℤ) → 1 ≤ number → number ≤ length vs
+    → ((i : ℕ) → bit_at m i ≡ 0 → at (pos 0) vs i ≡ pos 0) → v ≡ get_or vs (number - 1) v → v ≡ unwrap_or (at None (None ∷ shown_from 0 m vs) number) (pos 0)
 zero_or_value m zero vs v some few unset is = absurd (omega (arith, some))
 zero_or_value m (suc p) vs v some few unset is =
     let at_place : suc p - 1 ≡ p = omega arith in
     let within : p < length vs = omega (arith, few) in
-    sym (at_slot vs p v within (rw at_place at is)) ∙ sym (value_or_zero 0 m p vs within (λ i none. unset i (let here : 0 + i ≡ i = omega arith in ap (bit_at m) (sym here) ∙ none)))
+    sym (at_slot vs p v within (rw at_place at is))
+    ∙ sym (value_or_zero 0 m p vs within (λ i none. unset i (let here : 0 + i ≡ i = omega arith in ap (bit_at m) (sym here) ∙ none)))
 
 -- a number whose bit isn't 1 is of no parameter that is set
 pub without_bit : (m number : ℕ) (vs : List ℤ) → 1 ≤ number → bit_at m (number - 1) ≢ 1 → at None (None ∷ shown_from 0 m vs) number ≡ None
@@ -126,7 +136,8 @@ without_slot m (suc p) vs past = none_past 0 p vs (omega (arith, past (omega ari
     none_past k (suc p) (v ∷ vs) past = none_past (suc k) p vs (omega (arith, past))
 
 -- a number with a slot has its value, where its bit says that it is set
-pub with_slot : (m number : ℕ) (vs : List ℤ) (v : ℤ) → 1 ≤ number → number ≤ length vs → v ≡ get_or vs (number - 1) v → at None (None ∷ shown_from 0 m vs) number ≡ slot (bit_at m (number - 1)) v
+pub with_slot : (m number : ℕ) (vs : List ℤ) (v : ℤ) → 1 ≤ number → number ≤ length vs → v ≡ get_or vs (number - 1) v
+    → at None (None ∷ shown_from 0 m vs) number ≡ slot (bit_at m (number - 1)) v
 with_slot m zero vs v some few is = absurd (omega (arith, some))
 with_slot m (suc p) vs v some few is =
     let at_place : suc p - 1 ≡ p = omega arith in
@@ -143,10 +154,12 @@ with_slot m (suc p) vs v some few is =
         let next : suc k + p ≡ k + suc p = omega arith in
         slot_at (suc k) p vs (omega (arith, below)) ∙ ap (λ i. slot (bit_at m i) (at (pos 0) vs p)) next
 
-pub set-number : (m n number : ℕ) (x : ℤ) (vs : List ℤ) → 1 ≤ number → number ≤ length vs → bit_at n (number - 1) ≡ 1 → ((i : ℕ) → i ≢ number - 1 → bit_at n i ≡ bit_at m i) → None ∷ shown_from 0 n (set vs (number - 1) x) ≡ put None (None ∷ shown_from 0 m vs) number (Some x)
+pub set-number : (m n number : ℕ) (x : ℤ) (vs : List ℤ) → 1 ≤ number → number ≤ length vs → bit_at n (number - 1) ≡ 1
+    → ((i : ℕ) → i ≢ number - 1 → bit_at n i ≡ bit_at m i) → None ∷ shown_from 0 n (set vs (number - 1) x) ≡ put None (None ∷ shown_from 0 m vs) number (Some x)
 set-number m n zero x vs some few one others = absurd (omega (arith, some))
 set-number m n (suc p) x vs some few one others =
     let at_place : suc p - 1 ≡ p = omega arith in
     let here : 0 + p ≡ p = omega arith in
     ap (λ i. None ∷ shown_from 0 n (set vs i x)) at_place
-    ∙ ap (λ xs. None ∷ xs) (put-shown 0 m n p x vs (omega (arith, few)) (ap (bit_at n) (here ∙ sym at_place) ∙ one) (λ i other. others i (λ is. other (is ∙ at_place ∙ sym here))))
+    ∙ ap (λ xs. None ∷ xs) (put-shown 0 m n p x vs (omega (arith, few)) (ap (bit_at n) (here ∙ sym at_place) ∙ one)
+    (λ i other. others i (λ is. other (is ∙ at_place ∙ sym here))))

@@ -1,5 +1,6 @@
 -- The tables by number that the slots of a slab make: each slot that is taken has a number and a value.
-use Rattle.std.specs.Prelude.{◌≡◌, ℕ, suc, ◌+◌, ◌-◌, ◌^◌, ◌<◌, ◌≤◌, ◌==◌, min, List, [], ◌∷◌, replicate, Option, Some, None, slice_index_or, unwrap_or, if◌then◌else◌}
+use Rattle.std.specs.Prelude.{◌≡◌, ℕ, suc, ◌+◌, ◌-◌, ◌^◌, ◌<◌, ◌≤◌, ◌==◌, min, List, [], ◌∷◌, replicate, Option, Some, None, slice_index_or}
+use Rattle.std.specs.Prelude.{unwrap_or, if◌then◌else◌}
 use Rattle.slab.specs.Slab.{Slab, slab_len, get, ContainsKey}
 use Rattle.gw_transactions.specs.declared.Kept.{Kept}
 use Rattle.gw_num.specs.Table.{at, put}

@@ -7,7 +7,8 @@ use Rattle.gw_rules.proofs.Broken.{stops_first, joined}
 use Rattle.gw_rules.specs.Flow.{MayFind}
 
 -- a fault of the first checks, or want of memory, is that of the first and further checks
-pub found_first : (cs ds : List Check) (fault : Fault) → (first_broken cs ≡ Some fault) ⊎ (fault ≡ out_of_memory) → (first_broken (cs ++ ds) ≡ Some fault) ⊎ (fault ≡ out_of_memory)
+pub found_first : (cs ds : List Check) (fault : Fault) → (first_broken cs ≡ Some fault) ⊎ (fault ≡ out_of_memory)
+    → (first_broken (cs ++ ds) ≡ Some fault) ⊎ (fault ≡ out_of_memory)
 found_first cs ds fault (inl h) = inl (stops_first cs ds fault h)
 found_first cs ds fault (inr h) = inr h
 

@@ -1,5 +1,6 @@
 -- The rules of an object at places, and where they stand.
-use Rattle.std.proofs.Common.{◌≡◌, ℕ, ◌+◌, ◌*◌, ◌≤◌, ◌<◌, List, [], ◌∷◌, length, Option, Some, None, Bool, true, false, ◌&&◌, All, refl, sym, ap, ◌∙◌, subst, arith, inl, inr, if◌then◌else◌, nat_lt, get_or, is_some}
+use Rattle.std.proofs.Common.{◌≡◌, ℕ, ◌+◌, ◌*◌, ◌≤◌, ◌<◌, List, [], ◌∷◌, length, Option, Some, None, Bool, true, false, ◌&&◌, All, refl, sym, ap, ◌∙◌}
+use Rattle.std.proofs.Common.{subst, arith, inl, inr, if◌then◌else◌, nat_lt, get_or, is_some}
 use Rattle.std.specs.Prelude.{slice_get}
 use Rattle.std.specs.Option.{option_flatten, option_to_list}
 use Rattle.std.proofs.lemmas.Bool.{cases_lt, ltb-true, lt-ltb, and_parts, false≢true}
@@ -64,7 +65,9 @@ module _ (p : Parts) where
     row_each (b ∷ bs) h =
         let first = All-front P (option_to_list (gathering_rule (layout_of p) r b)) (rules_of_row (layout_of p) r bs) h in
         let rest = All-back P (option_to_list (gathering_rule (layout_of p) r b)) (rules_of_row (layout_of p) r bs) h in
-        All-cons (λ b. b < length p.blocks → P (gather r b)) b bs (λ lt. there-All P (gathering_rule (layout_of p) r b) (gather r b) (is_there (nat_lt b (length p.blocks)) (gather r b) (lt-ltb b (length p.blocks) lt)) first)
+        All-cons (λ b. b < length p.blocks → P (gather r b)) b bs
+        (λ lt. there-All P (gathering_rule (layout_of p) r b) (gather r b)
+        (is_there (nat_lt b (length p.blocks)) (gather r b) (lt-ltb b (length p.blocks) lt)) first)
         (row_each bs rest)
 
   module _ (P : Rule → Type 0) where
@@ -81,7 +84,8 @@ module _ (p : Parts) where
         (h.block i d within) (All-there P (chain_rule (layout_of p) p i (get_or p.blocks i d)) (h.chain i d within)))
 
     of_rows : OfEach → All P (rules_of_rows (layout_of p) p)
-    of_rows h = all_from_first P (λ r (row : ReturnRow). rules_of_row (layout_of p) r row.blocks) p.returns (λ r d within. row_all P r (get_or p.returns r d).blocks (h.row r d within))
+    of_rows h = all_from_first P (λ r (row : ReturnRow). rules_of_row (layout_of p) r row.blocks) p.returns
+        (λ r d within. row_all P r (get_or p.returns r d).blocks (h.row r d within))
 
     pub all_rules : OfEach → All P (rules_of (layout_of p) p)
     unfolding rules_of
@@ -94,14 +98,19 @@ module _ (p : Parts) where
         let of_row = All-back P (rules_of_blocks (layout_of p) p) (rules_of_rows (layout_of p) p) h in
         let both = each_from_first P (rules_of_block (layout_of p) p) p.blocks of_block in
         record {
-          block = λ i d within. All-head P (block_rule (layout_of p) p i (get_or p.blocks i d) (state_at p i)) (option_to_list (chain_rule (layout_of p) p i (get_or p.blocks i d))) (both i d within);
-          chain = λ i d within r is. there-All P (chain_rule (layout_of p) p i (get_or p.blocks i d)) r is (All-tail P (block_rule (layout_of p) p i (get_or p.blocks i d) (state_at p i)) (option_to_list (chain_rule (layout_of p) p i (get_or p.blocks i d))) (both i d within));
-          row = λ r d within. row_each P r (get_or p.returns r d).blocks (each_from_first P (λ r (row : ReturnRow). rules_of_row (layout_of p) r row.blocks) p.returns of_row r d within);
+          block = λ i d within. All-head P (block_rule (layout_of p) p i (get_or p.blocks i d) (state_at p i))
+              (option_to_list (chain_rule (layout_of p) p i (get_or p.blocks i d))) (both i d within);
+          chain = λ i d within r is. there-All P (chain_rule (layout_of p) p i (get_or p.blocks i d)) r is
+              (All-tail P (block_rule (layout_of p) p i (get_or p.blocks i d) (state_at p i))
+              (option_to_list (chain_rule (layout_of p) p i (get_or p.blocks i d))) (both i d within));
+          row = λ r d within. row_each P r (get_or p.returns r d).blocks
+              (each_from_first P (λ r (row : ReturnRow). rules_of_row (layout_of p) r row.blocks) p.returns of_row r d within);
         }
 
   -- WHERE THEY STAND
 
-  block_at_place : (i : ℕ) (block : Block) (row : Option TableState) → ((block_rule (layout_of p) p i block row).at ≡ i) × ((block_rule (layout_of p) p i block row).turn ≡ 2 * i)
+  block_at_place : (i : ℕ) (block : Block) (row : Option TableState) → ((block_rule (layout_of p) p i block row).at ≡ i)
+      × ((block_rule (layout_of p) p i block row).turn ≡ 2 * i)
   block_at_place i block None = (refl, refl)
   block_at_place i block (Some row) = (refl, refl)
 
@@ -110,10 +119,12 @@ module _ (p : Parts) where
     chain_within e h = subst (λ n. chain_place p.entities e < n) few.chain_states (row_within p.chain_states (chain_place p.entities e) h)
 
     pub chain_at_place : (e : ℕ) → is_some (chain_row p e) ≡ true → of_chain (layout_of p) p.entities e ≡ length p.blocks + chain_place p.entities e
-    chain_at_place e h = chosen (chain_place p.entities e) (chains_in p.entities) (length p.blocks + chain_place p.entities e) (places (layout_of p)) (chain_within e h)
+    chain_at_place e h = chosen (chain_place p.entities e) (chains_in p.entities) (length p.blocks + chain_place p.entities e)
+        (places (layout_of p)) (chain_within e h)
 
     -- a rule at a user chain stands behind the blocks, and before the return rows
-    chain_rule_at : (i : ℕ) (block : Block) (r : Rule) → chain_rule (layout_of p) p i block ≡ Some r → (length p.blocks ≤ r.at) × (r.at < place_count (layout_of p))
+    chain_rule_at : (i : ℕ) (block : Block) (r : Rule) → chain_rule (layout_of p) p i block ≡ Some r → (length p.blocks ≤ r.at)
+        × (r.at < place_count (layout_of p))
     chain_rule_at i (blocks.Unlink u) r is =
         let here = there_if (is_some (state_at p i) && is_some (chain_row p u.chain)) (send u.chain u.target) r is in
         let two = and_parts (is_some (state_at p i)) (is_some (chain_row p u.chain)) here.0 in
@@ -146,7 +157,8 @@ module _ (p : Parts) where
     stands_behind = record {
       block = λ i d within far. absurd (omega (arith, (block_at_place i (get_or p.blocks i d) (state_at p i)).0, within, far));
       chain = λ i d within r is far. absurd (omega (arith, (chain_rule_at i (get_or p.blocks i d) r is).1, far));
-      row = λ r d within j e there lt far. let b = get_or (get_or p.returns r d).blocks j e in all_rules (λ (s : Rule). s.at ≡ b → s.turn < 2 * b + 1) (before b lt);
+      row = λ r d within j e there lt far. let b = get_or (get_or p.returns r d).blocks j e in
+          all_rules (λ (s : Rule). s.at ≡ b → s.turn < 2 * b + 1) (before b lt);
     }
 
     -- the rules are a system: those of return rows gather

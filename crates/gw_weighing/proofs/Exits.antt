@@ -1,5 +1,6 @@
 -- What a block asks for its exits, as sums.
-use Rattle.std.proofs.Common.{◌≡◌, ℕ, ◌+◌, ◌*◌, ◌≤◌, List, [], ◌∷◌, length, min, Option, Some, None, Bool, true, false, IsTrue, All, refl, ap, arith, inl, inr, if◌then◌else◌}
+use Rattle.std.proofs.Common.{◌≡◌, ℕ, ◌+◌, ◌*◌, ◌≤◌, List, [], ◌∷◌, length, min, Option, Some, None, Bool, true, false, IsTrue, All, refl, ap, arith}
+use Rattle.std.proofs.Common.{inl, inr, if◌then◌else◌}
 use Rattle.std.specs.Prelude.{slice_get}
 use Rattle.std.proofs.Math.Nat.{min-eq_left, min-eq_right, min-le_left}
 use Rattle.std.proofs.lemmas.Bool.{cases_lt}
@@ -53,22 +54,28 @@ module _ (p : Parts) (weights bs cs : List ℕ) (reads : Reads p weights bs cs) 
 
   -- WHAT PASSES PAYS FOR WHAT IS ASKED
 
-  slope_asked : (b there place : ℕ) (slope : ℕ × ℕ) (treatment : Treatment) → weight_at weights place ≡ there → PaysSlope q b there slope treatment → of_sum weights (with_slope place slope treatment) ≤ weight_of_block bs b
+  slope_asked : (b there place : ℕ) (slope : ℕ × ℕ) (treatment : Treatment) → weight_at weights place ≡ there
+      → PaysSlope q b there slope treatment → of_sum weights (with_slope place slope treatment) ≤ weight_of_block bs b
   slope_asked b there place slope Keeps is h = omega (arith, is, h.0)
   slope_asked b there place slope (SetsTo value) is h = omega (arith, is, h, min-le_left (slope.1 * above value) greatest_weight)
   slope_asked b there place slope Lowers is h = omega (arith, is, h.0)
   slope_asked b there place slope RunsOut is h = omega (arith, is, h)
   slope_asked b there place slope Changes is h = absurd h
 
-  next_asked : (b there place : ℕ) (block : Block) (way : Way) (slope : Option (ℕ × ℕ)) → weight_at weights place ≡ there → PaysTo q b block way there slope → of_sum weights (for_next place block way slope) ≤ weight_of_block bs b
+  next_asked : (b there place : ℕ) (block : Block) (way : Way) (slope : Option (ℕ × ℕ)) → weight_at weights place ≡ there
+      → PaysTo q b block way there slope → of_sum weights (for_next place block way slope) ≤ weight_of_block bs b
   next_asked b there place block way None is h = omega (arith, is, h)
   next_asked b there place block way (Some slope) is h = slope_asked b there place slope (treats block way slope.0) is h
 
-  who_asked : (b : ℕ) (block : Block) (way : Way) (who : Who) → PaysWay q b block way who → of_sum weights (for_who (layout_of p) p b block way who) ≤ weight_of_block bs b
-  who_asked b block way Itself h = next_asked b (weight_of_block bs (leads_to b way)) (of_block (layout_of p) (leads_to b way)) block way (slope_at p.slopes (leads_to b way)) (reads.at_block (leads_to b way)) h
+  who_asked : (b : ℕ) (block : Block) (way : Way) (who : Who) → PaysWay q b block way who
+      → of_sum weights (for_who (layout_of p) p b block way who) ≤ weight_of_block bs b
+  who_asked b block way Itself h =
+      next_asked b (weight_of_block bs (leads_to b way)) (of_block (layout_of p) (leads_to b way)) block way
+      (slope_at p.slopes (leads_to b way)) (reads.at_block (leads_to b way)) h
   who_asked b block way (Copies copies) h = omega (arith, reads.at_block (b + 1), ap (λ n. copies * n) (reads.at_block (leads_to b way)), h.base)
 
-  asked_if : (at_once : Bool) (b : ℕ) (block : Block) (exit : Exit) → (IsTrue at_once → PaysWay q b block exit.way exit.who) → of_sum weights (if at_once then for_who (layout_of p) p b block exit.way exit.who else nothing) ≤ weight_of_block bs b
+  asked_if : (at_once : Bool) (b : ℕ) (block : Block) (exit : Exit) → (IsTrue at_once → PaysWay q b block exit.way exit.who)
+      → of_sum weights (if at_once then for_who (layout_of p) p b block exit.way exit.who else nothing) ≤ weight_of_block bs b
   asked_if true b block exit h = who_asked b block exit.way exit.who (h refl)
   asked_if false b block exit h = omega arith
 
@@ -76,11 +83,13 @@ module _ (p : Parts) (weights bs cs : List ℕ) (reads : Reads p weights bs cs) 
   exit_asked : (b : ℕ) (block : Block) (exit : Exit) → PaysExit q b block exit → of_sum weights (for_exit (layout_of p) p b block exit) ≤ weight_of_block bs b
   exit_asked b block exit h = asked_if (goes_at_once exit) b block exit h
 
-  pub first_asked : (b : ℕ) (block : Block) (es : List Exit) → All (PaysExit q b block) es → of_sum weights (for_exit_there (layout_of p) p b block (slice_get es 0)) ≤ weight_of_block bs b
+  pub first_asked : (b : ℕ) (block : Block) (es : List Exit) → All (PaysExit q b block) es
+      → of_sum weights (for_exit_there (layout_of p) p b block (slice_get es 0)) ≤ weight_of_block bs b
   first_asked b block [] h = omega arith
   first_asked b block (x ∷ es) h = exit_asked b block x (All-head (PaysExit q b block) x es h)
 
-  pub second_asked : (b : ℕ) (block : Block) (es : List Exit) → All (PaysExit q b block) es → of_sum weights (for_exit_there (layout_of p) p b block (slice_get es 1)) ≤ weight_of_block bs b
+  pub second_asked : (b : ℕ) (block : Block) (es : List Exit) → All (PaysExit q b block) es
+      → of_sum weights (for_exit_there (layout_of p) p b block (slice_get es 1)) ≤ weight_of_block bs b
   second_asked b block [] h = omega arith
   second_asked b block (x ∷ []) h = omega arith
   second_asked b block (x ∷ y ∷ es) h = exit_asked b block y (All-head (PaysExit q b block) y es (All-tail (PaysExit q b block) x (y ∷ es) h))
@@ -91,24 +100,29 @@ module _ (p : Parts) (weights bs cs : List ℕ) (reads : Reads p weights bs cs) 
     abbrev other : Parts
     other = with_weights p us vs
 
-    slope_paid : (b there elsewhere place : ℕ) (slope : ℕ × ℕ) (treatment : Treatment) → weight_at weights place ≡ there → weight_of_block bs b ≤ greatest_weight → PaysSlope other b elsewhere slope treatment
+    slope_paid : (b there elsewhere place : ℕ) (slope : ℕ × ℕ) (treatment : Treatment) → weight_at weights place ≡ there
+        → weight_of_block bs b ≤ greatest_weight → PaysSlope other b elsewhere slope treatment
         → of_sum weights (with_slope place slope treatment) ≤ weight_of_block bs b → PaysSlope q b there slope treatment
     slope_paid b there elsewhere place slope Keeps is most before asked = (omega (arith, is, asked), before.1)
-    slope_paid b there elsewhere place slope (SetsTo value) is most before asked = all_paid there (slope.1 * above value) (weight_of_block bs b) (omega (arith, is, asked)) most
+    slope_paid b there elsewhere place slope (SetsTo value) is most before asked =
+        all_paid there (slope.1 * above value) (weight_of_block bs b) (omega (arith, is, asked)) most
     slope_paid b there elsewhere place slope Lowers is most before asked = (omega (arith, is, asked), before.1)
     slope_paid b there elsewhere place slope RunsOut is most before asked = omega (arith, is, asked)
     slope_paid b there elsewhere place slope Changes is most before asked = absurd before
 
-    next_paid : (b there elsewhere place : ℕ) (block : Block) (way : Way) (slope : Option (ℕ × ℕ)) → weight_at weights place ≡ there → weight_of_block bs b ≤ greatest_weight → PaysTo other b block way elsewhere slope
+    next_paid : (b there elsewhere place : ℕ) (block : Block) (way : Way) (slope : Option (ℕ × ℕ)) → weight_at weights place ≡ there
+        → weight_of_block bs b ≤ greatest_weight → PaysTo other b block way elsewhere slope
         → of_sum weights (for_next place block way slope) ≤ weight_of_block bs b → PaysTo q b block way there slope
     next_paid b there elsewhere place block way None is most before asked = omega (arith, is, asked)
-    next_paid b there elsewhere place block way (Some slope) is most before asked = slope_paid b there elsewhere place slope (treats block way slope.0) is most before asked
+    next_paid b there elsewhere place block way (Some slope) is most before asked =
+        slope_paid b there elsewhere place slope (treats block way slope.0) is most before asked
 
     who_paid : (b : ℕ) (block : Block) (way : Way) (who : Who) → weight_of_block bs b ≤ greatest_weight → PaysWay other b block way who
         → of_sum weights (for_who (layout_of p) p b block way who) ≤ weight_of_block bs b → PaysWay q b block way who
     who_paid b block way Itself most before asked =
         let to = leads_to b way in
-        next_paid b (weight_of_block bs to) (weight_of_block us to) (of_block (layout_of p) to) block way (slope_at p.slopes to) (reads.at_block to) most before asked
+        next_paid b (weight_of_block bs to) (weight_of_block us to) (of_block (layout_of p) to) block way (slope_at p.slopes to)
+        (reads.at_block to) most before asked
     who_paid b block way (Copies copies) most before asked = record {
       base = omega (arith, reads.at_block (b + 1), ap (λ n. copies * n) (reads.at_block (leads_to b way)), asked);
       fall_on = before.fall_on;
@@ -116,20 +130,25 @@ module _ (p : Parts) (weights bs cs : List ℕ) (reads : Reads p weights bs cs) 
       steep = before.steep;
     }
 
-    paid_if : (at_once : Bool) (b : ℕ) (block : Block) (exit : Exit) → weight_of_block bs b ≤ greatest_weight → (IsTrue at_once → PaysWay other b block exit.way exit.who)
-        → of_sum weights (if at_once then for_who (layout_of p) p b block exit.way exit.who else nothing) ≤ weight_of_block bs b → IsTrue at_once → PaysWay q b block exit.way exit.who
+    paid_if : (at_once : Bool) (b : ℕ) (block : Block) (exit : Exit) → weight_of_block bs b ≤ greatest_weight
+        → (IsTrue at_once → PaysWay other b block exit.way exit.who)
+        → of_sum weights (if at_once then for_who (layout_of p) p b block exit.way exit.who else nothing) ≤ weight_of_block bs b
+        → IsTrue at_once → PaysWay q b block exit.way exit.who
     paid_if true b block exit most before asked made = who_paid b block exit.way exit.who most (before refl) asked
     paid_if false b block exit most before asked made = absurd (cc)
 
     -- a block that weighs what is asked for an exit pays for it
-    exit_paid : (b : ℕ) (block : Block) (exit : Exit) → weight_of_block bs b ≤ greatest_weight → PaysExit other b block exit → of_sum weights (for_exit (layout_of p) p b block exit) ≤ weight_of_block bs b → PaysExit q b block exit
+    exit_paid : (b : ℕ) (block : Block) (exit : Exit) → weight_of_block bs b ≤ greatest_weight → PaysExit other b block exit
+        → of_sum weights (for_exit (layout_of p) p b block exit) ≤ weight_of_block bs b → PaysExit q b block exit
     exit_paid b block exit most before asked = paid_if (goes_at_once exit) b block exit most before asked
 
     -- both sums for exits, of which there are two at most
     pub both_paid : (b : ℕ) (block : Block) (es : List Exit) → length es ≤ 2 → weight_of_block bs b ≤ greatest_weight → All (PaysExit other b block) es
-        → of_sum weights (for_exit_there (layout_of p) p b block (slice_get es 0)) ≤ weight_of_block bs b → of_sum weights (for_exit_there (layout_of p) p b block (slice_get es 1)) ≤ weight_of_block bs b → All (PaysExit q b block) es
+        → of_sum weights (for_exit_there (layout_of p) p b block (slice_get es 0)) ≤ weight_of_block bs b
+        → of_sum weights (for_exit_there (layout_of p) p b block (slice_get es 1)) ≤ weight_of_block bs b → All (PaysExit q b block) es
     both_paid b block [] few most before first second = All-nil (PaysExit q b block)
-    both_paid b block (x ∷ []) few most before first second = All-cons (PaysExit q b block) x [] (exit_paid b block x most (All-head (PaysExit other b block) x [] before) first) (All-nil (PaysExit q b block))
+    both_paid b block (x ∷ []) few most before first second =
+        All-cons (PaysExit q b block) x [] (exit_paid b block x most (All-head (PaysExit other b block) x [] before) first) (All-nil (PaysExit q b block))
     both_paid b block (x ∷ y ∷ []) few most before first second =
         let behind = All-tail (PaysExit other b block) x (y ∷ []) before in
         All-cons (PaysExit q b block) x (y ∷ []) (exit_paid b block x most (All-head (PaysExit other b block) x (y ∷ []) before) first)

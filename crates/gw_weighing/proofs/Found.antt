@@ -1,8 +1,10 @@
 -- The least weights at the places of an object are the least that pass in it.
-use Rattle.std.proofs.Common.{◌≡◌, ℕ, zero, suc, ◌+◌, ◌≤◌, List, ◌++◌, length, map, take, drop, All, sym, ap, ◌∙◌, subst, arith, inl, inr, get_or, length-append}
+use Rattle.std.proofs.Common.{◌≡◌, ℕ, zero, suc, ◌+◌, ◌≤◌, List, ◌++◌, length, map, take, drop, All, sym, ap, ◌∙◌, subst, arith, inl, inr, get_or}
+use Rattle.std.proofs.Common.{length-append}
 use Rattle.std.specs.Prelude.{slice_index_or}
 use Rattle.std.proofs.lemmas.Bool.{cases_lt}
-use Rattle.std.proofs.lemmas.List.{length-map, get_or_past, get_or_append_left, take-append-drop, length-take-le, length-drop, get_or-map, get_or-append-add, get_or_default}
+use Rattle.std.proofs.lemmas.List.{length-map, get_or_past, get_or_append_left, take-append-drop, length-take-le, length-drop, get_or-map}
+use Rattle.std.proofs.lemmas.List.{get_or-append-add, get_or_default}
 use Rattle.std.proofs.lemmas.List.Elements.{All-append, All-map}
 use Rattle.gw_object.specs.Limits.{greatest_weight}
 use Rattle.gw_object.specs.Entities.{chains_in}
@@ -56,7 +58,8 @@ rear_at_most bs us rest more same h also = record {
 }
 
 module _ (p : Parts) (fits : HasSpelling p) where
-  spelled : (bs cs : List ℕ) → length bs ≡ length p.blocks → length cs ≡ chains_in p.entities → All IsWeight bs → All IsWeight cs → HasSpelling (with_weights p bs cs)
+  spelled : (bs cs : List ℕ) → length bs ≡ length p.blocks → length cs ≡ chains_in p.entities → All IsWeight bs → All IsWeight cs
+      → HasSpelling (with_weights p bs cs)
   spelled bs cs = still_spelled p bs cs fits
 
   weighted : (us cs : List ℕ) → AreCertificate p us cs → Weighted (with_weights p us cs)
@@ -77,17 +80,24 @@ module _ (p : Parts) (fits : HasSpelling p) where
           ]
 
   -- weights that pass keep the rules, with what return rows gather
-  certificate : (us cs : List ℕ) → (c : AreCertificate p us cs) → IsCertificate (rules_of (layout_of p) p) (places (layout_of p)) (joined p us cs (gathered us) c.blocks c.chains (length-map p.returns (λ (row : ReturnRow). greatest_behind us row.blocks)))
+  certificate : (us cs : List ℕ) → (c : AreCertificate p us cs)
+      → IsCertificate (rules_of (layout_of p) p) (places (layout_of p))
+      (joined p us cs (gathered us) c.blocks c.chains (length-map p.returns (λ (row : ReturnRow). greatest_behind us row.blocks)))
   certificate us cs c =
       let rows = length-map p.returns (λ (row : ReturnRow). greatest_behind us row.blocks) in
       let all = joined p us cs (gathered us) c.blocks c.chains rows in
-      let range : All IsWeight all = All-append IsWeight us (cs ++ gathered us) c.range (All-append IsWeight cs (gathered us) c.chain_range (All-map IsWeight (λ (row : ReturnRow). greatest_behind us row.blocks) p.returns (λ i d there. gathered_in_range us c.range (get_or p.returns i d).blocks))) in
+      let range : All IsWeight all =
+      All-append IsWeight us (cs ++ gathered us) c.range
+      (All-append IsWeight cs (gathered us) c.chain_range
+      (All-map IsWeight (λ (row : ReturnRow). greatest_behind us row.blocks) p.returns
+      (λ i d there. gathered_in_range us c.range (get_or p.returns i d).blocks))) in
       let w = weighted us cs c in
       record {
         many = joined_length p us cs (gathered us) c.blocks c.chains rows;
         range = λ i lt. range i 0 lt;
         keeps = all_rules p (Keeps all) (kept p all us cs (reads p us cs (gathered us) c.blocks c.chains rows) c.blocks c.range w.each_row
-            (λ r d lt. at_row p us cs (gathered us) c.blocks c.chains rows r ∙ get_or-map (λ (row : ReturnRow). greatest_behind us row.blocks) p.returns r d 0 lt));
+            (λ r d lt. at_row p us cs (gathered us) c.blocks c.chains rows r
+            ∙ get_or-map (λ (row : ReturnRow). greatest_behind us row.blocks) p.returns r d 0 lt));
       }
 
   module _ (bs cs rs : List ℕ) (blocks : length bs ≡ length p.blocks) (chains : length cs ≡ chains_in p.entities) (rows : length rs ≡ length p.returns) where
@@ -95,7 +105,8 @@ module _ (p : Parts) (fits : HasSpelling p) where
     all = joined p bs cs rs blocks chains rows
 
     -- and those that keep the rules pass, where any do
-    passes : All IsWeight bs → All IsWeight cs → All (Keeps all) (rules_of (layout_of p) p) → (us vs : List ℕ) → AreCertificate p us vs → WeightsPass (with_weights p bs cs)
+    passes : All IsWeight bs → All IsWeight cs → All (Keeps all) (rules_of (layout_of p) p) → (us vs : List ℕ) → AreCertificate p us vs
+        → WeightsPass (with_weights p bs cs)
     passes range chain_range keeps us vs c =
         let w = weighted us vs c in
         let one : Weighted (with_weights p bs cs) = record {
@@ -127,14 +138,23 @@ module _ (p : Parts) (fits : HasSpelling p) where
         }
       where
         rear_many : (us vs : List ℕ) → AreCertificate p us vs → length (cs ++ rs) ≡ length (vs ++ gathered us)
-        rear_many us vs c = omega (arith, chains, rows, c.chains, length-append cs rs, length-append vs (gathered us), length-map p.returns (λ (row : ReturnRow). greatest_behind us row.blocks))
+        rear_many us vs c = omega (
+          arith,
+          chains,
+          rows,
+          c.chains,
+          length-append cs rs,
+          length-append vs (gathered us),
+          length-map p.returns (λ (row : ReturnRow). greatest_behind us row.blocks),
+        )
 
 -- the first weights, those behind them, and the rest
 pub split_in_three : (n c : ℕ) (weights : List ℕ) → take n weights ++ (take c (drop n weights) ++ drop c (drop n weights)) ≡ weights
 split_in_three n c weights = ap (λ (xs : List ℕ). take n weights ++ xs) (take-append-drop c (drop n weights)) ∙ take-append-drop n weights
 
 -- found at all places
-found_least : (p : Parts) → HasSpelling p → (weights : List ℕ) → length weights ≡ places (layout_of p) → InRange weights → IsLeast (rules_of (layout_of p) p) (places (layout_of p)) weights
+found_least : (p : Parts) → HasSpelling p → (weights : List ℕ) → length weights ≡ places (layout_of p) → InRange weights
+    → IsLeast (rules_of (layout_of p) p) (places (layout_of p)) weights
     → AreLeast p (take (length p.blocks) weights) (take (chains_in p.entities) (drop (length p.blocks) weights))
 found_least p fits weights many range least =
     let n = length p.blocks in
@@ -148,7 +168,8 @@ found_least p fits weights many range least =
     (subst InRange (sym same) range) (subst (IsLeast (rules_of (layout_of p) p) (places (layout_of p))) (sym same) least)
 
 -- whatever weights the object has in which they are looked for
-pub found_for : (p : Parts) (us vs : List ℕ) → HasSpelling (with_weights p us vs) → (weights : List ℕ) → length weights ≡ places (layout_of p) → InRange weights → IsLeast (rules_of (layout_of p) p) (places (layout_of p)) weights
+pub found_for : (p : Parts) (us vs : List ℕ) → HasSpelling (with_weights p us vs) → (weights : List ℕ) → length weights
+    ≡ places (layout_of p) → InRange weights → IsLeast (rules_of (layout_of p) p) (places (layout_of p)) weights
     → AreLeast p (take (length p.blocks) weights) (take (chains_in p.entities) (drop (length p.blocks) weights))
 unfolding rules_of
 found_for p us vs fits weights many range least =

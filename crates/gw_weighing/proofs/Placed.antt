@@ -22,7 +22,9 @@ module _ (P : Rule → Type 0) where
     all_placed first (x ∷ xs) h =
         All-append P (rules first x) (from_place rules (first + 1) xs)
         (subst (λ n. All P (rules n x)) (let e : first + 0 ≡ first = omega arith in e) (h 0 x (omega arith)))
-        (all_placed (first + 1) xs (λ i d within. subst (λ n. All P (rules n (get_or xs i d))) (let e : first + suc i ≡ first + 1 + i = omega arith in e) (h (suc i) d (omega (arith, within)))))
+        (all_placed (first + 1) xs
+        (λ i d within. subst (λ n. All P (rules n (get_or xs i d))) (let e : first + suc i ≡ first + 1 + i = omega arith in e)
+        (h (suc i) d (omega (arith, within)))))
 
     each_placed : (first : ℕ) (xs : List A) → All P (from_place rules first xs) → (i : ℕ) (d : A) → i < length xs → All P (rules (first + i) (get_or xs i d))
     each_placed first [] h i d within = absurd (omega (arith, within))

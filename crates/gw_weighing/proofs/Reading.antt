@@ -24,7 +24,8 @@ pub record Reads (p : Parts) (weights blocks chains : List ℕ) : Type 0 where
   pub at_block : (b : ℕ) → weight_at weights (of_block (layout_of p) b) ≡ weight_of_block blocks b
   pub at_chain : (e : ℕ) → weight_at weights (of_chain (layout_of p) p.entities e) ≡ slice_index_or chains (chain_place p.entities e) 0
 
-module _ (p : Parts) (bs cs rs : List ℕ) (blocks : length bs ≡ length p.blocks) (chains : length cs ≡ chains_in p.entities) (rows : length rs ≡ length p.returns) where
+module _ (p : Parts) (bs cs rs : List ℕ) (blocks : length bs ≡ length p.blocks) (chains : length cs ≡ chains_in p.entities)
+    (rows : length rs ≡ length p.returns) where
   abbrev pub joined : List ℕ
   joined = bs ++ (cs ++ rs)
 
@@ -38,8 +39,10 @@ module _ (p : Parts) (bs cs rs : List ℕ) (blocks : length bs ≡ length p.bloc
   at_block zero = nothing_behind
   at_block (suc i) =
       elim (cases_lt i (length p.blocks)) [
-        | inl lt ↦ ap (weight_at joined) (chosen i (length p.blocks) i (places (layout_of p)) lt) ∙ get_or_append_left bs (cs ++ rs) 0 i (omega (arith, blocks, lt))
-        | inr le ↦ ap (weight_at joined) (other i (length p.blocks) i (places (layout_of p)) le) ∙ nothing_behind ∙ sym (get_or_past bs i 0 (omega (arith, blocks, le)))
+        | inl lt ↦ ap (weight_at joined) (chosen i (length p.blocks) i (places (layout_of p)) lt)
+            ∙ get_or_append_left bs (cs ++ rs) 0 i (omega (arith, blocks, lt))
+        | inr le ↦ ap (weight_at joined) (other i (length p.blocks) i (places (layout_of p)) le) ∙ nothing_behind
+            ∙ sym (get_or_past bs i 0 (omega (arith, blocks, le)))
       ]
 
   -- behind the blocks
@@ -52,8 +55,10 @@ module _ (p : Parts) (bs cs rs : List ℕ) (blocks : length bs ≡ length p.bloc
   at_chain e =
       let k = chain_place p.entities e in
       elim (cases_lt k (chains_in p.entities)) [
-        | inl lt ↦ ap (weight_at joined) (chosen k (chains_in p.entities) (length p.blocks + k) (places (layout_of p)) lt) ∙ behind_blocks k ∙ get_or_append_left cs rs 0 k (omega (arith, chains, lt))
-        | inr le ↦ ap (weight_at joined) (other k (chains_in p.entities) (length p.blocks + k) (places (layout_of p)) le) ∙ nothing_behind ∙ sym (get_or_past cs k 0 (omega (arith, chains, le)))
+        | inl lt ↦ ap (weight_at joined) (chosen k (chains_in p.entities) (length p.blocks + k) (places (layout_of p)) lt)
+            ∙ behind_blocks k ∙ get_or_append_left cs rs 0 k (omega (arith, chains, lt))
+        | inr le ↦ ap (weight_at joined) (other k (chains_in p.entities) (length p.blocks + k) (places (layout_of p)) le) ∙ nothing_behind
+            ∙ sym (get_or_past cs k 0 (omega (arith, chains, le)))
       ]
 
   pub reads : Reads p joined bs cs

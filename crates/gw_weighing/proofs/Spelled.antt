@@ -14,7 +14,13 @@ use Rattle.gw_weighing.specs.Certificates.{IsCounted}
 
 -- what has a spelling is counted
 pub is_counted : (p : Parts) → HasSpelling p → IsCounted p
-is_counted p fits = record { blocks = fits.limits.blocks; entities = fits.limits.entities; returns = fits.limits.returns; chain_states = fits.limits.chain_states }
+is_counted p fits = record {
+  blocks = fits.limits.blocks;
+  entities = fits.limits.entities;
+  returns = fits.limits.returns;
+  chain_states =
+      fits.limits.chain_states;
+}
 
 -- weights are spelled in four bytes each
 spelled_in : (weights : List ℕ) → length (flat_map (to_be_bytes w32) weights) ≡ length weights * 4
@@ -30,7 +36,8 @@ together : (xs ys others more : List ℕ) → length xs ≡ length others → le
 together xs ys others more same also = omega (arith, same, also, length-append xs ys, length-append others more)
 
 -- weights of blocks are spelled in as many bytes as others with the same slopes
-with_slopes_as_long : (version : ℕ) (weights others : List ℕ) (slopes : List (Option (ℕ × ℕ))) → length weights ≡ length others → length (flat_map (sloped_weight version).spell (zip weights slopes)) ≡ length (flat_map (sloped_weight version).spell (zip others slopes))
+with_slopes_as_long : (version : ℕ) (weights others : List ℕ) (slopes : List (Option (ℕ × ℕ))) → length weights ≡ length others
+    → length (flat_map (sloped_weight version).spell (zip weights slopes)) ≡ length (flat_map (sloped_weight version).spell (zip others slopes))
 with_slopes_as_long version [] [] slopes same = refl
 with_slopes_as_long version [] (v ∷ vs) slopes same = absurd (cc)
 with_slopes_as_long version (w ∷ ws) [] slopes same = absurd (cc)
@@ -39,7 +46,8 @@ with_slopes_as_long version (w ∷ ws) (v ∷ vs) (s ∷ ss) same =
     let flag = (slope version).spell s in
     let first = together (to_be_bytes w32 w) flag (to_be_bytes w32 v) flag refl refl in
     let others = with_slopes_as_long version ws vs ss (omega (arith, same)) in
-    together (to_be_bytes w32 w ++ flag) (flat_map (sloped_weight version).spell (zip ws ss)) (to_be_bytes w32 v ++ flag) (flat_map (sloped_weight version).spell (zip vs ss)) first others
+    together (to_be_bytes w32 w ++ flag) (flat_map (sloped_weight version).spell (zip ws ss)) (to_be_bytes w32 v ++ flag)
+    (flat_map (sloped_weight version).spell (zip vs ss)) first others
 
 -- these, one behind the other, and more behind them
 abbrev before : List (List ℕ) → List ℕ → List ℕ
@@ -78,7 +86,8 @@ module _ (p : Parts) (weights chains : List ℕ) where
       (together _ _ _ _ (with_slopes_as_long p.version weights p.weights p.slopes same) (as_long chains p.chain_weights others))
       ∙ sym (ap length (in_parts p))
 
-  pub still_spelled : HasSpelling p → length weights ≡ length p.blocks → length chains ≡ chains_in p.entities → All IsWeight weights → All IsWeight chains → HasSpelling reweighed
+  pub still_spelled : HasSpelling p → length weights ≡ length p.blocks → length chains ≡ chains_in p.entities → All IsWeight weights
+      → All IsWeight chains → HasSpelling reweighed
   still_spelled fits same others range chain_range =
       let l = fits.limits in
       let c = fits.canonical in

@@ -46,7 +46,12 @@ discount slope treatment = 0
 -- 1 for an entry, and the weight at a place with this slope, by what is done to its parameter
 abbrev pub with_slope : ℕ → ℕ × ℕ → Treatment → Sum
 with_slope place slope treatment =
-    record { own = 1 + surcharge slope treatment; first = record { times = 1; place = place }; second = record { times = 0; place = 0 }; less = discount slope treatment }
+    record {
+      own = 1 + surcharge slope treatment;
+      first = record { times = 1; place = place };
+      second = record { times = 0; place = 0 };
+      less = discount slope treatment;
+    }
 
 -- for who goes along a way of a block to a place with this slope or with none
 abbrev pub for_next : ℕ → Block → Way → Option (ℕ × ℕ) → Sum

@@ -32,7 +32,8 @@ use Rattle.gw_command_line.specs.declared.rows.Summing.{Summing}
 use Rattle.gw_summary.specs.Telling.{IsSummary}
 use Rattle.gw_summary.specs.declared.rows.Rows.{Rows as RowsOfStudy}
 use Rattle.gw_summary.specs.declared.telling.SummaryRequest.{SummaryRequest}
-use Rattle.gw_planner.specs.Answers.{IsReported, question_answering, chart_answering, window_of, is_plain, request_of, words_of, studied_with, comparison_answering, study_answering, rows_asked, share_asked, object_asked}
+use Rattle.gw_planner.specs.Answers.{IsReported, question_answering, chart_answering, window_of, is_plain, request_of, words_of, studied_with}
+use Rattle.gw_planner.specs.Answers.{comparison_answering, study_answering, rows_asked, share_asked, object_asked}
 use Rattle.planner.specs.Answers.{answering_of_input, charting_of_input, studying_of_input, of_front, summary_answering}
 use Rattle.gw_command_line.specs.declared.words.Question.{Question}
 use Rattle.gw_command_line.specs.declared.words.Question.TheVariants.{Explain, List as Lists, Points, Convert, Trace, Report}
@@ -47,7 +48,8 @@ explained_text bytes text status (inl h) = explained_model bytes h.0 text status
 explained_text bytes text status (inr h) = inr h.0
 
 explained_object : (r : Result Parts Fault) (text : List ℕ) (status : ℕ)
-    → MatchResult r (λ object. (status ≡ end_status) × Begins (accepted_line object) text) (λ fault. (status ≡ refusal_status) × IsAdvised (refusal_line fault) fault.code text)
+    → MatchResult r (λ object. (status ≡ end_status) × Begins (accepted_line object) text)
+    (λ fault. (status ≡ refusal_status) × IsAdvised (refusal_line fault) fault.code text)
     → IsEnd status
 explained_object (Ok object) text status h = inl h.0
 explained_object (Err fault) text status h = inr h.0
@@ -66,7 +68,8 @@ listed_object (Ok parts) text status h = inl h.0
 listed_object (Err fault) text status h = inr h.0
 
 -- of an object, or of a text
-of_either : (is_object : Bool) (Object Text : Type 0) (status : ℕ) → (Object → IsEnd status) → (Text → IsEnd status) → MatchBool is_object Object Text → IsEnd status
+of_either : (is_object : Bool) (Object Text : Type 0) (status : ℕ) → (Object → IsEnd status) → (Text → IsEnd status)
+    → MatchBool is_object Object Text → IsEnd status
 of_either true Object Text status object text h = object h
 of_either false Object Text status object text h = text h
 
@@ -80,7 +83,8 @@ study bytes request text status (inl h) = inl h.0
 study bytes request text status (inr h) = inr h.0
 
 -- those of alternatives
-about : (form : Form) (request : StudyRequest) (alternatives : _) (text : List ℕ) (status : ℕ) → IsAnswerAbout form request alternatives text status → IsEnd status
+about : (form : Form) (request : StudyRequest) (alternatives : _) (text : List ℕ) (status : ℕ)
+    → IsAnswerAbout form request alternatives text status → IsEnd status
 about form request alternatives text status (inl h) = inl h.0
 about form request alternatives text status (inr h) = inr h
 
@@ -88,7 +92,8 @@ told : (Are : _) (form : Form) (request : StudyRequest) (text : List ℕ) (statu
 told Are form request text status (inl h) = about form request h.0 text status h.2
 told Are form request text status (inr h) = inr h
 
-alone : (plain : Bool) (d : Demand) (bytes text : List ℕ) (status : ℕ) → MatchBool plain (IsStudy bytes (request_of d) text status) (studied_with d bytes text status) → IsEnd status
+alone : (plain : Bool) (d : Demand) (bytes text : List ℕ) (status : ℕ)
+    → MatchBool plain (IsStudy bytes (request_of d) text status) (studied_with d bytes text status) → IsEnd status
 alone true d bytes text status h = study bytes (request_of d) text status h
 alone false d bytes text status h = told (ArePoints bytes (words_of d.options) (request_of d).count) h.0 (request_of d) text status h.2
 

@@ -14,7 +14,8 @@ use Rattle.gw_summary.specs.declared.pieces.Pieces.{Pieces}
 use Rattle.planner.specs.Answers.{summary_of, summary_answering}
 use Rattle.planner.specs.Reading.{ReadsAll}
 
-of_some : (summing : Summing) (known : Option (List ℕ)) (text : List ℕ) (status : ℕ) → status ≡ refusal_status → AnswersReader (summary_answering summing) known text status
+of_some : (summing : Summing) (known : Option (List ℕ)) (text : List ℕ) (status : ℕ) → status ≡ refusal_status
+    → AnswersReader (summary_answering summing) known text status
 of_some summing None text status h = ([], tt, inr h)
 of_some summing (Some bytes) text status h = (bytes, refl, inr h)
 

@@ -31,7 +31,11 @@ pub fn model_of(alloc: Global, text: &[u8], refusals: &mut Refusals) -> Result<M
 }
 
 /// The accepted object that a text becomes.
-pub fn assemble_model(alloc: Global, model: &Model, refusals: &mut Refusals) -> Result<Verified, Fault> {
+pub fn assemble_model(
+    alloc: Global,
+    model: &Model,
+    refusals: &mut Refusals,
+) -> Result<Verified, Fault> {
     let first = assemble(alloc, model);
     if !lacks_memory(&first) {
         return first;
@@ -68,7 +72,11 @@ pub fn object_of(alloc: Global, bytes: &[u8], refusals: &mut Refusals) -> Result
 }
 
 /// The object, accepted.
-pub fn verify_object(alloc: Global, object: Object, refusals: &mut Refusals) -> Result<Verified, Fault> {
+pub fn verify_object(
+    alloc: Global,
+    object: Object,
+    refusals: &mut Refusals,
+) -> Result<Verified, Fault> {
     match verify(alloc, object) {
         Ok(verified) => Ok(verified),
         Err((object, fault)) => {

@@ -6,7 +6,10 @@
 mod calls;
 mod refusals;
 
-use calls::{assemble_model, bytes_of, run_to_end, job_of, model_of, object_of, write_report, start_job, verify_object};
+use calls::{
+    assemble_model, bytes_of, job_of, model_of, object_of, run_to_end, start_job, verify_object,
+    write_report,
+};
 use gw_object::Memory;
 use gw_rules::Verified;
 use gw_scan::Sim;

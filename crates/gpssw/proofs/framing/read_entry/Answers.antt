@@ -15,5 +15,6 @@ pub returns-clause-entry : goal.returns-clause-entry
 returns-clause-entry g c =
     let four : length c.in_ok-size.size.items ≡ 4 = omega (arith, c.in_ok-size.ensures.within, c.if-len-lt-LENGTH_BYTES.false, c.len.ensures) in
     let number : c.read_u32-size.result ≡ big_number 4 c.in_ok-size.size.items = c.read_u32-size.ensures ∙ ap (big_number 4) c.deref.ensures.value in
-    let given = subst (λ (n : ℕ). GivesEntry (λ bs. Some (sized_front n bs)) (Some c.in_ok-entry.entry) c.read_front.new.reader.left c.read_object.new.reader.left) number c.in_ok-entry.ensures.entry in
+    let given = subst (λ (n : ℕ). GivesEntry (λ bs. Some (sized_front n bs)) (Some c.in_ok-entry.entry) c.read_front.new.reader.left
+    c.read_object.new.reader.left) number c.in_ok-entry.ensures.entry in
     sized_entry _ _ _ c.in_ok-size.size.items c.in_ok-entry.entry four c.in_ok-size.ensures.taken given

@@ -7,4 +7,5 @@ returns-clause-entry g c =
     let byte = c.in_ok-byte.byte in
     let count : length byte.items ≡ vec_len byte = omega (arith, byte.ok.0) in
     let read = c.in_ok-byte.ensures in
-    rw c.is_empty.ensures (read_one _ _ byte.items (vec_len byte) count (omega (arith, count, read.within)) read.taken (λ none. read.end (omega (arith, count, none))))
+    rw c.is_empty.ensures (read_one _ _ byte.items (vec_len byte) count (omega (arith, count, read.within)) read.taken
+    (λ none. read.end (omega (arith, count, none))))

@@ -11,13 +11,15 @@ use Rattle.gpssw.proofs.program.pool.Goals as goal
 pub returns-in-Some-clause-written : goal.returns-in-Some-clause-written
 returns-in-Some-clause-written g c =
     let out : words_fault c.args.workers c.args.slice ≡ Some c.in-Some.refusal.0 = sym (rw c.in-Some.is at c.refusal_of_words.ensures) in
-    let answer = words_told c.args.workers c.args.slice c.args.reader.now.left c.in-Some.refusal.0 out c.answer_refusal.result c.or_no_memory.result c.answer_refusal.ensures c.or_no_memory.ensures in
+    let answer = words_told c.args.workers c.args.slice c.args.reader.now.left c.in-Some.refusal.0 out c.answer_refusal.result
+    c.or_no_memory.result c.answer_refusal.ensures c.or_no_memory.ensures in
     delivers _ (pool_ends c.args.workers c.args.slice) _ _ _ _ c.or_no_memory.result answer c.deliver.ensures.bytes
 
 pub returns-in-Some-clause-calls : goal.returns-in-Some-clause-calls
 returns-in-Some-clause-calls g c =
     let out : words_fault c.args.workers c.args.slice ≡ Some c.in-Some.refusal.0 = sym (rw c.in-Some.is at c.refusal_of_words.ensures) in
-    let answer = words_told c.args.workers c.args.slice c.args.reader.now.left c.in-Some.refusal.0 out c.answer_refusal.result c.or_no_memory.result c.answer_refusal.ensures c.or_no_memory.ensures in
+    let answer = words_told c.args.workers c.args.slice c.args.reader.now.left c.in-Some.refusal.0 out c.answer_refusal.result
+    c.or_no_memory.result c.answer_refusal.ensures c.or_no_memory.ensures in
     of_batch _ _ _ _ _ c.args.workers c.args.slice c.requires.reader c.or_no_memory.result
     (answer_statuses _ (pool_ends c.args.workers c.args.slice) _ c.or_no_memory.result answer)
     (none_read _ c.answer_refusal.result c.or_no_memory.result c.or_no_memory.ensures)

@@ -8,4 +8,5 @@ returns-clause-answer g c =
     (rw c.deref.ensures.value at c.answer_to.ensures) c.or_no_memory.ensures
 
 pub returns-clause-whole : goal.returns-clause-whole
-returns-clause-whole g c = on_ok c.or_no_memory.result (front_lost 1048577 _ _ c.in_ok-input.input.items c.in_ok-input.ensures.front c.in_ok-input.ensures.taken)
+returns-clause-whole g c =
+    on_ok c.or_no_memory.result (front_lost 1048577 _ _ c.in_ok-input.input.items c.in_ok-input.ensures.front c.in_ok-input.ensures.taken)

@@ -20,15 +20,21 @@ loop-alloc-preserved g c =
 
 pub returns-in_err-tell_window-clause-stops : goal.returns-in_err-tell_window-clause-stops
 returns-in_err-tell_window-clause-stops g c =
-    err_same _ c.from_residual.result _ c.from_residual.ensures.1 (stops_on _ _ _ _ c.requires.start c.loop-alloc.invariant.nothing c.loop-alloc.invariant.advanced c.in_err-tell_window.ensures.stops)
+    err_same _ c.from_residual.result _ c.from_residual.ensures.1
+    (stops_on _ _ _ _ c.requires.start c.loop-alloc.invariant.nothing c.loop-alloc.invariant.advanced c.in_err-tell_window.ensures.stops)
 
 pub returns-clause-advances : goal.returns-clause-advances
-returns-clause-advances g c = ended c.write_text.result _ _ c.loop-alloc.waiting.items _ _ (omega (arith, c.loop-alloc.invariant.count)) c.loop-alloc.invariant.advanced c.write_text.ensures.bytes
+returns-clause-advances g c =
+    ended c.write_text.result _ _ c.loop-alloc.waiting.items _ _ (omega (arith, c.loop-alloc.invariant.count))
+    c.loop-alloc.invariant.advanced c.write_text.ensures.bytes
 
 pub returns-clause-stops : goal.returns-clause-stops
-returns-clause-stops g c = end_stops c.write_text.result _ _ c.loop-alloc.waiting.items _ _ (omega (arith, c.loop-alloc.invariant.count)) c.loop-alloc.invariant.advanced c.write_text.ensures.bytes
+returns-clause-stops g c =
+    end_stops c.write_text.result _ _ c.loop-alloc.waiting.items _ _ (omega (arith, c.loop-alloc.invariant.count))
+    c.loop-alloc.invariant.advanced c.write_text.ensures.bytes
 
 pub returns-clause-marks : goal.returns-clause-marks
 returns-clause-marks g c =
-    let marked = subst (λ (b : Bool). MarksFailure c.write_text.result b c.write_text.new.writer.failed) c.loop-alloc.invariant.unfailed c.write_text.ensures.told in
+    let marked = subst (λ (b : Bool). MarksFailure c.write_text.result b c.write_text.new.writer.failed) c.loop-alloc.invariant.unfailed
+    c.write_text.ensures.told in
     tells_writes c.write_text.result _ _ (is_write _ _ c.write_text.result c.write_text.ensures.bytes) marked

@@ -6,7 +6,8 @@ use Rattle.gw_batch.proofs.answer.tell_waiting.Given as goal
 
 abbrev pub invariant-loop-alloc : goal.invariant-loop-alloc
 invariant-loop-alloc g l = record {
-  advanced : Advances (stage l.fn.telling (map waiting_entry l.fn.waiting.items) l.fn.writer.held) (stage l.telling (map waiting_entry l.waiting.items) l.writer.held);
+  advanced : Advances (stage l.fn.telling (map waiting_entry l.fn.waiting.items) l.fn.writer.held)
+      (stage l.telling (map waiting_entry l.waiting.items) l.writer.held);
   count : l.telling.number + length l.waiting.items ≡ length l.fn.waiting.items;
   nothing : l.telling.number ≡ 0 → Keeps l.fn.writer.held l.writer.held;
   unfailed : l.writer.failed ≡ l.fn.writer.failed;

@@ -12,7 +12,8 @@ loop-alloc-preserved g c =
     let size = ap (λ (ws : List Waiting). length ws) split in
     let long = ap (λ (ts : List Ticket). length ts) pushed ∙ length-append old (c.ticket_of-ticket.result ∷ []) in
     record {
-      started = one_submitted c.args.first _ _ old _ c.in-Some.entry _ _ _ (omega (arith, c.loop-alloc.tickets.ok.0, c.len-in-Some.ensures)) split pushed c.loop-alloc.invariant.started c.ticket_of-ticket.ensures;
+      started = one_submitted c.args.first _ _ old _ c.in-Some.entry _ _ _
+          (omega (arith, c.loop-alloc.tickets.ok.0, c.len-in-Some.ensures)) split pushed c.loop-alloc.invariant.started c.ticket_of-ticket.ensures;
       room = omega arith;
       none = λ none. absurd (omega (arith, long, none));
       count = omega (arith, c.loop-alloc.invariant.count, size, long);

@@ -7,7 +7,8 @@ use Rattle.gw_batch.proofs.telling.tell_all.Given as goal
 
 abbrev pub invariant-loop-ticket : goal.invariant-loop-ticket
 invariant-loop-ticket g l = record {
-  reached : (es rest : List Entry) → StartWith l.fn.telling.number es l.fn.tickets.items rest → Reaches (stage l.fn.telling es l.fn.writer.held) l.telling l.tickets.items rest l.writer.held;
+  reached : (es rest : List Entry) → StartWith l.fn.telling.number es l.fn.tickets.items rest
+      → Reaches (stage l.fn.telling es l.fn.writer.held) l.telling l.tickets.items rest l.writer.held;
   count : l.telling.number + length l.tickets.items ≡ l.fn.telling.number + length l.fn.tickets.items;
   unfailed : l.writer.failed ≡ l.fn.writer.failed;
 }

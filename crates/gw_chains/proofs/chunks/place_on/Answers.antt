@@ -8,7 +8,8 @@ pub returns-then-place-front-clause-place : goal.returns-then-place-front-clause
 returns-then-place-front-clause-place g c =
     let p = λ (y : g.row.T.Denot). g.T.Placed.goes_first y c.args.newcomer in
     place_in_front p c.args.front.now c.args.back.now c.partition_point-place.result c.requires.order (omega (arith, c.if-place-front.true))
-    (IsPartitionPoint-from_clause p c.args.front.now c.partition_point-place.result c.partition_point-place.ensures.partitioned (parted_front p c.args.front.now c.args.back.now c.requires.order) (λ a r q k. search rules))
+    (IsPartitionPoint-from_clause p c.args.front.now c.partition_point-place.result c.partition_point-place.ensures.partitioned
+    (parted_front p c.args.front.now c.args.back.now c.requires.order) (λ a r q k. search rules))
 
 pub overflow_add-result : goal.overflow_add-result
 overflow_add-result g c = omega (arith, c.requires.few, c.partition_point-place.ensures.bound, c.partition_point.ensures.bound)
@@ -16,6 +17,9 @@ overflow_add-result g c = omega (arith, c.requires.few, c.partition_point-place.
 pub returns-clause-place : goal.returns-clause-place
 returns-clause-place g c =
     let p = λ (y : g.row.T.Denot). g.T.Placed.goes_first y c.args.newcomer in
-    place_in_back p c.args.front.now c.args.back.now c.partition_point-place.result c.partition_point.result (omega (arith, c.partition_point-place.ensures.bound, c.if-place-front.false))
-    (IsPartitionPoint-from_clause p c.args.front.now c.partition_point-place.result c.partition_point-place.ensures.partitioned (parted_front p c.args.front.now c.args.back.now c.requires.order) (λ a r q k. search rules))
-    (IsPartitionPoint-from_clause p c.args.back.now c.partition_point.result c.partition_point.ensures.partitioned (parted_back p c.args.front.now c.args.back.now c.requires.order) (λ a r q k. search rules))
+    place_in_back p c.args.front.now c.args.back.now c.partition_point-place.result c.partition_point.result
+    (omega (arith, c.partition_point-place.ensures.bound, c.if-place-front.false))
+    (IsPartitionPoint-from_clause p c.args.front.now c.partition_point-place.result c.partition_point-place.ensures.partitioned
+    (parted_front p c.args.front.now c.args.back.now c.requires.order) (λ a r q k. search rules))
+    (IsPartitionPoint-from_clause p c.args.back.now c.partition_point.result c.partition_point.ensures.partitioned
+    (parted_back p c.args.front.now c.args.back.now c.requires.order) (λ a r q k. search rules))

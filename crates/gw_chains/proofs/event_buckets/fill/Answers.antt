@@ -9,7 +9,8 @@ loop-event-preserved c =
     let before = members_of (get c.loop-event.links) c.loop-event.row.items in
     let popped = ap reverse c.in-Some.ensures.items ∙ reverse-last c.pop.new.self.items c.in-Some.event in
     record {
-      members = come_in_order c.in-Some.event before _ _ _ c.requires.order (sym (ap (λ ys. before ++ ys) popped) ∙ c.loop-event.invariant.members) c.insert_behind.ensures.gain.0;
+      members = come_in_order c.in-Some.event before _ _ _ c.requires.order
+          (sym (ap (λ ys. before ++ ys) popped) ∙ c.loop-event.invariant.members) c.insert_behind.ensures.gain.0;
       buckets = c.insert_behind.ensures.gain.1;
       many = omega (arith, c.insert_behind.ensures.gain.2, c.loop-event.invariant.many, c.in-Some.ensures.len);
       len = omega (arith, c.insert_behind.ensures.room, c.loop-event.invariant.len, c.in-Some.ensures.len);

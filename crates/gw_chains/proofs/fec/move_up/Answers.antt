@@ -12,7 +12,8 @@ others_are : (ys xs : List Event) (e : Event) → ys ≡ xs ++ e ∷ [] → leng
 others_are ys xs e is = ap length is ∙ length-append xs (e ∷ [])
 
 -- what is read before the open place is that of the others
-before_place : (e d : Event) (xs ys : List Event) (i : ℕ) → 0 < i → i ≤ length xs → IsVacantAt e xs ys i → get_or ys (i - 1) d ≡ get_or xs (i - 1) (get_or ys (i - 1) d)
+before_place : (e d : Event) (xs ys : List Event) (i : ℕ) → 0 < i → i ≤ length xs → IsVacantAt e xs ys i → get_or ys (i - 1) d
+    ≡ get_or xs (i - 1) (get_or ys (i - 1) d)
 before_place e d xs ys i some within vacant =
     get_or_default ys (i - 1) d (get_or ys (i - 1) d) (omega (arith, some, within, vacant.0))
     ∙ before_vacant e xs ys i (get_or ys (i - 1) d) some within vacant
@@ -43,7 +44,8 @@ loop-place-preserved c =
           vacant_lower e _ xs ys _ i some below (before_place e _ xs ys i some below (inv.vacant xs is)) (inv.vacant xs is) refl;
       past = λ xs is.
           let below : i ≤ length xs = omega (arith, inv.within, others_are c.args.events.now xs e is) in
-          past_one (λ (y : Event). int_le y.time e.time) e xs i _ some below (before_place e _ xs ys i some below (inv.vacant xs is)) (sym c.is_no_later.ensures ∙ c.if-is_no_later.true) (inv.past xs is);
+          past_one (λ (y : Event). int_le y.time e.time) e xs i _ some below (before_place e _ xs ys i some below (inv.vacant xs is))
+          (sym c.is_no_later.ensures ∙ c.if-is_no_later.true) (inv.past xs is);
     }
 
 pub returns-clause-items : goal.returns-clause-items
@@ -57,7 +59,8 @@ returns-clause-items c xs is =
     let here : placed_behind passes e (reverse (take i xs)) ≡ e ∷ reverse (take i xs) =
     elim c.loop-place-test.branch [
       | then-loop-place-test+else-is_no_later w ↦
-          before_one passes e xs i _ w.loop-place-test.true below (before_place e _ xs ys i w.loop-place-test.true below (inv.vacant xs is)) (sym w.is_no_later.ensures ∙ w.if-is_no_later.false)
+          before_one passes e xs i _ w.loop-place-test.true below
+          (before_place e _ xs ys i w.loop-place-test.true below (inv.vacant xs is)) (sym w.is_no_later.ensures ∙ w.if-is_no_later.false)
       | else-loop-place-test w ↦ before_none passes e xs i (omega (arith, w.loop-place-test.false))
     ] in
     ap reverse (inv.vacant xs is).1 ∙ stands_there passes e xs i here (inv.past xs is)

@@ -20,7 +20,8 @@ returns-clause-room c =
       | then-not-is_empty w ↦
           let some : 0 < length few = omega (arith, not_none _ w.if-not-is_empty.ensures, c.args.few.now.ok.0) in
           let all = ap length w.take_few.ensures.items ∙ length-reverse few in
-          let taken = room_taken (length few) many w.take_few.new.self some (ap length (c.requires.apart some)) all w.take_few.ensures.links w.take_few.ensures.spare w.take_few.ensures.chunks in
+          let taken = room_taken (length few) many w.take_few.new.self some (ap length (c.requires.apart some)) all
+          w.take_few.ensures.links w.take_few.ensures.spare w.take_few.ensures.chunks in
           through _ (room_behind 0 w.take_few.new.self) (room_behind 0 mid) _ taken (ap (room_behind 0) w.many-is) last
       | else-not-is_empty w ↦
           let none : length few ≡ 0 = omega (arith, is_none _ w.if-not-is_empty.ensures, c.args.few.now.ok.0) in

@@ -6,4 +6,5 @@ use Rattle.gw_chains.proofs.row.place_ahead.Goals as goal
 
 pub returns-clause-place : goal.returns-clause-place
 returns-clause-place c =
-    IsPartitionPoint-from_clause (λ b. below b c.args.newcomer) c.args.row.now.items c.partition_point.result c.partition_point.ensures.partitioned (parted_below c.args.newcomer c.args.row.now.items c.requires) (λ a r q k. search rules)
+    IsPartitionPoint-from_clause (λ b. below b c.args.newcomer) c.args.row.now.items c.partition_point.result
+    c.partition_point.ensures.partitioned (parted_below c.args.newcomer c.args.row.now.items c.requires) (λ a r q k. search rules)

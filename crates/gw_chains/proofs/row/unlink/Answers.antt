@@ -7,7 +7,8 @@ use Rattle.gw_chains.proofs.row.unlink.Goals as goal
 
 pub remove-link-requires : goal.remove-link-requires
 remove-link-requires g c =
-    subst (λ k. IsSome (get c.args.links.now k)) (sym c.requires.here) (link_there g.T.Ranked.rank (get c.args.links.now) c.args.row.now.items c.args.spot.bucket c.args.spot.passed c.requires.buckets c.requires.there)
+    subst (λ k. IsSome (get c.args.links.now k)) (sym c.requires.here)
+    (link_there g.T.Ranked.rank (get c.args.links.now) c.args.row.now.items c.args.spot.bucket c.args.spot.passed c.requires.buckets c.requires.there)
 
 pub lead_past-requires : goal.lead_past-requires
 lead_past-requires g c some =
@@ -17,12 +18,17 @@ lead_past-requires g c some =
 
 pub returns-clause-value : goal.returns-clause-value
 returns-clause-value g c =
-    stands_there g.T.Ranked.rank (get c.args.links.now) c.args.row.now.items c.args.spot c.remove-link.result c.requires.buckets c.requires.there (ap (get c.args.links.now) (sym c.requires.here) ∙ c.remove-link.ensures.value)
+    stands_there g.T.Ranked.rank (get c.args.links.now) c.args.row.now.items c.args.spot c.remove-link.result c.requires.buckets
+    c.requires.there (ap (get c.args.links.now) (sym c.requires.here) ∙ c.remove-link.ensures.value)
 
 -- what is left
-abbrev done : (g : _) (c : goal.After-shorten_at g) → Unlinked g.T.Ranked.rank (get c.args.links.now) (get c.remove-link.new.self) (get c.lead_past.new.links) c.args.spot c.args.here c.remove-link.result c.remove-link.ensures.value c.remove-link.ensures.updates.changed c.remove-link.ensures.updates.others c.lead_past.ensures.links c.args.row.now.items (without_link c.args.spot c.remove-link.result.next c.args.row.now.items c.args.spot.bucket)
+abbrev done : (g : _) (c : goal.After-shorten_at g)
+    → Unlinked g.T.Ranked.rank (get c.args.links.now) (get c.remove-link.new.self) (get c.lead_past.new.links) c.args.spot c.args.here
+    c.remove-link.result c.remove-link.ensures.value c.remove-link.ensures.updates.changed c.remove-link.ensures.updates.others
+    c.lead_past.ensures.links c.args.row.now.items (without_link c.args.spot c.remove-link.result.next c.args.row.now.items c.args.spot.bucket)
 done g c =
-    unlinked_at g.T.Ranked.rank (get c.args.links.now) (get c.remove-link.new.self) (get c.lead_past.new.links) c.args.spot c.args.here c.remove-link.result c.remove-link.ensures.value c.remove-link.ensures.updates.changed c.remove-link.ensures.updates.others c.lead_past.ensures.links
+    unlinked_at g.T.Ranked.rank (get c.args.links.now) (get c.remove-link.new.self) (get c.lead_past.new.links) c.args.spot c.args.here
+    c.remove-link.result c.remove-link.ensures.value c.remove-link.ensures.updates.changed c.remove-link.ensures.updates.others c.lead_past.ensures.links
     c.args.row.now.items c.requires.buckets c.requires.spot c.requires.there c.requires.here
 
 pub returns-clause-members : goal.returns-clause-members

@@ -19,12 +19,19 @@ loop-passed-preserved c =
     let within = number_from bs n p c.loop-passed.invariant.left in
     let one : n + 1 ≡ suc n = omega arith in
     let later = c.index-in-loop-passed.result.now in
-    let upto : later.count ≤ p = omega (arith, count-here bs n later within c.index-in-loop-passed.ensures, count-here bs n b within c.index.ensures, c.loop-passed-test.true) in record {
+    let upto : later.count ≤ p =
+    omega (
+      arith,
+      count-here bs n later within c.index-in-loop-passed.ensures,
+      count-here bs n b within c.index.ensures,
+      c.loop-passed-test.true,
+    ) in record {
       place =
           ap (λ m. place_at bs m (p - later.count)) one
           ∙ place_next bs n p later.count within (sym (count-here bs n later within c.index-in-loop-passed.ensures)) upto
           ∙ c.loop-passed.invariant.place;
-      left = subst (λ m. p - later.count < total (drop m bs)) (sym one) (fewer_left bs n p later within c.index-in-loop-passed.ensures upto c.loop-passed.invariant.left);
+      left = subst (λ m. p - later.count < total (drop m bs)) (sym one)
+          (fewer_left bs n p later within c.index-in-loop-passed.ensures upto c.loop-passed.invariant.left);
     }
 
 pub returns-clause-inside : goal.returns-clause-inside

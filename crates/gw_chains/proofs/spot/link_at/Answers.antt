@@ -17,4 +17,5 @@ returns-then-spot-eq0 g c =
 
 pub returns-else-spot-eq0 : goal.returns-else-spot-eq0
 returns-else-spot-eq0 g c =
-    link-next g.T.Ranked.rank (get c.args.links.now) c.args.row.now.items c.args.spot c.index-else-spot-eq0.result.now c.requires.buckets c.requires.spot c.requires.there (omega arith) c.index-else-spot-eq0.ensures
+    link-next g.T.Ranked.rank (get c.args.links.now) c.args.row.now.items c.args.spot c.index-else-spot-eq0.result.now c.requires.buckets
+    c.requires.spot c.requires.there (omega arith) c.index-else-spot-eq0.ensures

@@ -7,7 +7,8 @@ use Rattle.gw_chains.proofs.walk.begin_walk.Goals as goal
 
 pub returns-then-walk-eq0-clause-walk : goal.returns-then-walk-eq0-clause-walk
 returns-then-walk-eq0-clause-walk g c =
-    walk_begun (get c.args._links.now) c.args.row.now.items c.walk_from.result c.args.walk.spot.bucket (filled g.T.Ranked.rank (get c.args._links.now) c.args.row.now.items c.requires.buckets.each)
+    walk_begun (get c.args._links.now) c.args.row.now.items c.walk_from.result c.args.walk.spot.bucket
+    (filled g.T.Ranked.rank (get c.args._links.now) c.args.row.now.items c.requires.buckets.each)
     c.walk_from.ensures.bucket c.walk_from.ensures.passed c.walk_from.ensures.here c.walk_from.ensures.left
 
 pub returns-then-walk-eq0-clause-place : goal.returns-then-walk-eq0-clause-place

@@ -11,6 +11,8 @@ unfolding axes
 returns c =
     let plot = c.args.plot in
     IfOk-equal c.put_limit_line.result _ _ _ c.put_limit_line.ensures
-    (chain6 _ _ _ _ _ _ (title c.args.name.now plot) (unit plot) (levels plot c.args.axis) (clocks plot c.args.window.from (span_of c.args.window)) (below plot (codes "clock units"))
+    (chain6 _ _ _ _ _ _ (title c.args.name.now plot) (unit plot) (levels plot c.args.axis)
+    (clocks plot c.args.window.from (span_of c.args.window)) (below plot (codes "clock units"))
     (limit_line plot c.args.axis c.args.limit)
-    c.in_ok-put_title.ensures c.in_ok-put_unit.ensures c.in_ok-put_levels.ensures (rw c.span_of.ensures.value at c.in_ok-put_clocks.ensures) c.in_ok-put_below.ensures)
+    c.in_ok-put_title.ensures c.in_ok-put_unit.ensures c.in_ok-put_levels.ensures
+    (rw c.span_of.ensures.value at c.in_ok-put_clocks.ensures) c.in_ok-put_below.ensures)

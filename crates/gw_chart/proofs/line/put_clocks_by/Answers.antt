@@ -6,4 +6,5 @@ pub loop-i-init : goal.loop-i-init
 loop-i-init c = begun (clock_at c.args.plot c.args.from c.args.span c.args.step) c.args.out.now.items
 
 pub loop-i-preserved : goal.loop-i-preserved
-loop-i-preserved c = grown (clock_at c.args.plot c.args.from c.args.span c.args.step) c.loop-i.i _ _ _ c.loop-i.invariant (rw c.div_ceil-first.ensures at c.in_ok-put_clock.ensures)
+loop-i-preserved c = grown (clock_at c.args.plot c.args.from c.args.span c.args.step) c.loop-i.i _ _ _ c.loop-i.invariant
+    (rw c.div_ceil-first.ensures at c.in_ok-put_clock.ensures)

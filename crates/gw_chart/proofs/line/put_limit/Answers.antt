@@ -9,5 +9,6 @@ pub returns : goal.returns
 unfolding limit
 returns c =
     IfOk-equal c.put-2.result _ _ _ c.put-2.ensures
-    (chain3 _ _ _ (codes "<path d=\"M80.0 ") (tenths (limit_at c.args.plot c.args.axis c.args.limit)) (codes "H700.0\" stroke=\"#333\" stroke-dasharray=\"4 4\"/>\n")
+    (chain3 _ _ _ (codes "<path d=\"M80.0 ") (tenths (limit_at c.args.plot c.args.axis c.args.limit))
+    (codes "H700.0\" stroke=\"#333\" stroke-dasharray=\"4 4\"/>\n")
     c.in_ok-put.ensures (rw c.limit_at.ensures at c.in_ok-put_tenths.ensures))

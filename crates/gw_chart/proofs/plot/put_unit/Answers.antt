@@ -9,5 +9,7 @@ pub returns : goal.returns
 unfolding unit
 returns c =
     IfOk-equal c.put-4.result _ _ _ c.put-4.ensures
-    (chain5 _ _ _ _ _ (codes "<text transform=\"translate(14,") (tenths (320 + height_of c.args.plot / 2)) (codes ") rotate(-90)\" text-anchor=\"middle\" fill=\"#555\">") (unit_of c.args.plot) (codes "</text>\n")
-    c.in_ok-put.ensures (rw c.height_of.ensures.value at c.in_ok-put_tenths.ensures) c.in_ok-put-2.ensures (rw c.words_of.ensures.unit at c.in_ok-put-3.ensures))
+    (chain5 _ _ _ _ _ (codes "<text transform=\"translate(14,") (tenths (320 + height_of c.args.plot / 2))
+    (codes ") rotate(-90)\" text-anchor=\"middle\" fill=\"#555\">") (unit_of c.args.plot) (codes "</text>\n")
+    c.in_ok-put.ensures (rw c.height_of.ensures.value at c.in_ok-put_tenths.ensures) c.in_ok-put-2.ensures
+    (rw c.words_of.ensures.unit at c.in_ok-put-3.ensures))

@@ -13,7 +13,8 @@ look_on-requires-clause-looked c =
     let s = c.run_past.new.sim.state in
     let ran = c.in_ok-run_past.ensures in
     looked_first k c.args.from.0 c.args.to.0 s _ c.requires.order ran.reached.alone ran.over
-    (subst (λ (i : Job). AreStillAt i c.args.from.0 0 s.steps) (sym ran.job) (still_on j c.args.from.0 0 c.args.sim.now.state.steps s.steps c.requires.still ran.still))
+    (subst (λ (i : Job). AreStillAt i c.args.from.0 0 s.steps) (sym ran.job)
+    (still_on j c.args.from.0 0 c.args.sim.now.state.steps s.steps c.requires.still ran.still))
     c.in_ok-bands.ensures
 
 pub returns-clause-bands : goal.returns-clause-bands

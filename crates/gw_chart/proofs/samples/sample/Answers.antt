@@ -21,4 +21,5 @@ pub returns-clause-still : goal.returns-clause-still
 returns-clause-still c =
     let j = c.args.sim.now.job in
     let s = c.run_past.new.sim.state in
-    on_any c.contents.result (AreStillAt j c.args.time.0 0 s.steps) (still_on j c.args.time.0 0 c.args.sim.now.state.steps s.steps c.requires.still c.in_ok-run_past.ensures.still)
+    on_any c.contents.result (AreStillAt j c.args.time.0 0 s.steps)
+    (still_on j c.args.time.0 0 c.args.sim.now.state.steps s.steps c.requires.still c.in_ok-run_past.ensures.still)

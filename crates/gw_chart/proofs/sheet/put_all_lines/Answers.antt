@@ -7,4 +7,5 @@ loop-i-init c = begun (lines_at c.args.window c.args.seen.now.rows.items c.args.
 
 pub loop-i-preserved : goal.loop-i-preserved
 loop-i-preserved c =
-    grown (lines_at c.args.window c.args.seen.now.rows.items c.args.seen.now.bands.items c.args.entities.now) c.loop-i.i _ _ _ c.loop-i.invariant c.in_ok-put_lines_at.ensures
+    grown (lines_at c.args.window c.args.seen.now.rows.items c.args.seen.now.bands.items c.args.entities.now) c.loop-i.i _ _ _
+    c.loop-i.invariant c.in_ok-put_lines_at.ensures

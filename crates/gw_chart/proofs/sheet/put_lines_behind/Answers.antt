@@ -8,4 +8,5 @@ loop-i-init c = let s = c.args.series.now in begun (line_behind s.plot s.name.no
 pub loop-i-preserved : goal.loop-i-preserved
 loop-i-preserved c =
     let s = c.args.series.now in
-    grown (line_behind s.plot s.name.now s.window s.seen.now.rows.items s.seen.now.bands.items s.entity) c.loop-i.i _ _ _ c.loop-i.invariant c.in_ok-put_line_behind.ensures
+    grown (line_behind s.plot s.name.now s.window s.seen.now.rows.items s.seen.now.bands.items s.entity) c.loop-i.i _ _ _
+    c.loop-i.invariant c.in_ok-put_line_behind.ensures

@@ -12,7 +12,8 @@ loop-i-preserved c =
     let added = c.push.ensures.items in
     record {
       count = omega (arith, ap length added, length-append costs (cost ∷ []), c.loop-i.invariant.count);
-      checks = goes_on c.args.parts.now costs c.as_slice-procedures.result.now c.loop-i.i c.index-procedures-i.result c.loop-i-test.true c.index-procedures-i.is more cost
+      checks = goes_on c.args.parts.now costs c.as_slice-procedures.result.now c.loop-i.i c.index-procedures-i.result c.loop-i-test.true
+          c.index-procedures-i.is more cost
           (rw c.as_slice.ensures.value at c.in_ok-cost.ensures.checks) (rw c.as_slice.ensures.value at c.in_ok-cost.ensures.cost) added
           ∙ c.loop-i.invariant.checks;
     }
@@ -21,7 +22,8 @@ pub returns-in_err-cost : goal.returns-in_err-cost
 unfolding plus_checks
 returns-in_err-cost c =
     let p = err_from_is_err_and c.from_residual.result c.from_residual.ensures.1 in
-    let found = stops c.args.parts.now c.loop-i.costs.items c.as_slice-procedures.result.now c.loop-i.i c.index-procedures-i.result c.loop-i-test.true c.index-procedures-i.is _ (rw c.as_slice.ensures.value at c.in_err-cost.ensures.checks) in
+    let found = stops c.args.parts.now c.loop-i.costs.items c.as_slice-procedures.result.now c.loop-i.i c.index-procedures-i.result
+    c.loop-i-test.true c.index-procedures-i.is _ (rw c.as_slice.ensures.value at c.in_err-cost.ensures.checks) in
     rw (p.1, p.2) (sym c.loop-i.invariant.checks ∙ found)
 
 pub returns : goal.returns

@@ -10,7 +10,8 @@ eq_other a b = grind (arith, nat_tests)
 
 any_is_among : (numbers : List ℕ) (number : ℕ) → list_any (λ y. y == number) numbers ≡ is_among numbers number
 any_is_among [] number = refl
-any_is_among (y ∷ numbers) number = ap (λ b. b || list_any (λ y. y == number) numbers) (eq_other y number) ∙ ap (λ b. number == y || b) (any_is_among numbers number)
+any_is_among (y ∷ numbers) number = ap (λ b. b || list_any (λ y. y == number) numbers) (eq_other y number)
+    ∙ ap (λ b. number == y || b) (any_is_among numbers number)
 
 pub returns : goal.returns
 returns c = c.contains.ensures.value ∙ any_is_among c.args.numbers.now c.args.number

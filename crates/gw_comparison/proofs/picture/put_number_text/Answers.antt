@@ -10,4 +10,5 @@ pub returns : goal.returns
 unfolding number_text
 returns c =
     IfOk-equal c.put.result _ _ _ c.put.ensures
-    (chain3 _ _ _ (text_at c.args.x c.args.y c.args.how.now) (amount c.args.number.now) (codes "</text>\n") c.in_ok-put_text_at.ensures c.in_ok-put_amount.ensures)
+    (chain3 _ _ _ (text_at c.args.x c.args.y c.args.how.now) (amount c.args.number.now) (codes "</text>\n") c.in_ok-put_text_at.ensures
+    c.in_ok-put_amount.ensures)

@@ -14,7 +14,8 @@ loop-i-preserved c =
     let i = c.loop-i.i in
     let x = c.index-columns-i.result in
     let below : i < length xs = omega arith in
-    let grown = one_more (AddsColumn c.args.all c.args.point.now) (take i xs) x c.args.out.now.items c.loop-i.out.items c.put_column.new.out.items c.loop-i.invariant c.in_ok-put_column.ensures in
+    let grown = one_more (AddsColumn c.args.all c.args.point.now) (take i xs) x c.args.out.now.items c.loop-i.out.items
+    c.put_column.new.out.items c.loop-i.invariant c.in_ok-put_column.ensures in
     let same : take (i + 1) xs ≡ take i xs ++ x ∷ [] =
     take_more xs i x below ∙ ap (λ (y : Column). take i xs ++ y ∷ []) (sym c.index-columns-i.is) in
     subst (λ ys. AddsEach (AddsColumn c.args.all c.args.point.now) ys c.args.out.now.items c.put_column.new.out.items) (sym same) grown

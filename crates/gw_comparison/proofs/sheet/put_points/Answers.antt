@@ -14,7 +14,8 @@ loop-i-preserved c =
     let i = c.loop-i.i in
     let x = c.index-points-i.result in
     let below : i < length xs = omega arith in
-    let grown = one_more (AddsColumns c.args.all) (take i xs) x c.args.out.now.items c.loop-i.out.items c.put_point.new.out.items c.loop-i.invariant c.in_ok-put_point.ensures in
+    let grown = one_more (AddsColumns c.args.all) (take i xs) x c.args.out.now.items c.loop-i.out.items c.put_point.new.out.items
+    c.loop-i.invariant c.in_ok-put_point.ensures in
     let same : take (i + 1) xs ≡ take i xs ++ x ∷ [] =
     take_more xs i x below ∙ ap (λ (y : Point). take i xs ++ y ∷ []) (sym c.index-points-i.is) in
     subst (λ ys. AddsEach (AddsColumns c.args.all) ys c.args.out.now.items c.put_point.new.out.items) (sym same) grown

@@ -10,4 +10,5 @@ pub returns-clause-front : goal.returns-clause-front
 returns-clause-front g c = filled c.args.most _ _ c.loop-input.input.items (omega arith) c.loop-input.invariant.taken
 
 pub returns-in_err-read_some-clause-limited : goal.returns-in_err-read_some-clause-limited
-returns-in_err-read_some-clause-limited g c = lost_more c.args.most _ c.loop-input.input.items _ _ _ (omega arith) c.loop-input.invariant.taken c.in_err-read_some.ensures.limited
+returns-in_err-read_some-clause-limited g c =
+    lost_more c.args.most _ c.loop-input.input.items _ _ _ (omega arith) c.loop-input.invariant.taken c.in_err-read_some.ensures.limited

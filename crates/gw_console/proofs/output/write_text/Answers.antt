@@ -6,7 +6,8 @@ use Rattle.std.proofs.lemmas.List.{take_rest}
 use Rattle.gw_console.proofs.output.write_text.Goals as goal
 
 -- the first i bytes and then n of the rest are the first i + n
-more : (a b c : Option (List ℕ)) (text : List ℕ) (i n : ℕ) → Appends a b (take i text) → Appends b c (take n (take (length text - i) (drop i text))) → Appends a c (take (i + n) text)
+more : (a b c : Option (List ℕ)) (text : List ℕ) (i n : ℕ) → Appends a b (take i text)
+    → Appends b c (take n (take (length text - i) (drop i text))) → Appends a c (take (i + n) text)
 more a b c text i n first rest =
     let rest-left = rw (take_rest text i) at rest in
     rw (take-add i n text) (Appends-trans a b c (take i text) (take n (drop i text)) first rest-left)

@@ -6,5 +6,6 @@ use Rattle.gw_figures.proofs.model_values.put_blocks.Goals as goal
 
 pub loop-i-preserved : goal.loop-i-preserved
 loop-i-preserved c =
-    next_block (span_of c.args.window.now) c.loop-i.i c.args.blocks c.loop-i.out.items c.put_block.new.out.items (c.args.out.now.items ++ blocks_values (span_of c.args.window.now) 0 c.args.blocks)
+    next_block (span_of c.args.window.now) c.loop-i.i c.args.blocks c.loop-i.out.items c.put_block.new.out.items
+    (c.args.out.now.items ++ blocks_values (span_of c.args.window.now) 0 c.args.blocks)
     (omega arith) c.loop-i.invariant (search rules)

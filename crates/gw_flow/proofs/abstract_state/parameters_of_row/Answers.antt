@@ -5,4 +5,6 @@ use Rattle.gw_flow.specs.Known.{parameter_carried}
 use Rattle.gw_flow.proofs.abstract_state.parameters_of_row.Goals as goal
 
 pub returns : goal.returns
-returns c = items_from_collect _ c.collect.ensures.ran (YieldsList-from_map_by _ (λ (p : Parameter). p) parameter_carried (YieldsList-from_slice c.args.parameters.now cc) c.map.ensures.closure (λ x r q k. search rules))
+returns c = items_from_collect _ c.collect.ensures.ran
+    (YieldsList-from_map_by _ (λ (p : Parameter). p) parameter_carried (YieldsList-from_slice c.args.parameters.now cc)
+    c.map.ensures.closure (λ x r q k. search rules))

@@ -19,7 +19,8 @@ check_blocks-requires-clause-room c =
     let p = c.args.parts.now in
     let returns = c.args.returns.now in
     let blocks : map (option_map (known_row returns)) c.deref.result.now ≡ map (option_map (row_meaning p.returns)) p.states =
-    ap (map (option_map (known_row returns))) c.deref.ensures.value ∙ c.in-Ok.ensures.blocks returns ∙ ap (λ rs. map (option_map (row_meaning rs)) p.states) c.requires.returns in
+    ap (map (option_map (known_row returns))) c.deref.ensures.value ∙ c.in-Ok.ensures.blocks returns
+    ∙ ap (λ rs. map (option_map (row_meaning rs)) p.states) c.requires.returns in
     λ b row is. rows_have_room p.returns c.requires.next p.states c.requires.spelled.limits.each_state b row (rw (sym blocks) is)
 
 pub returns-in-Ok : goal.returns-in-Ok
@@ -27,8 +28,11 @@ returns-in-Ok c =
     let p = c.args.parts.now in
     let returns = c.args.returns.now in
     let blocks : map (option_map (known_row returns)) c.deref.result.now ≡ map (option_map (row_meaning p.returns)) p.states =
-    ap (map (option_map (known_row returns))) c.deref.ensures.value ∙ c.in-Ok.ensures.blocks returns ∙ ap (λ rs. map (option_map (row_meaning rs)) p.states) c.requires.returns in
+    ap (map (option_map (known_row returns))) c.deref.ensures.value ∙ c.in-Ok.ensures.blocks returns
+    ∙ ap (λ rs. map (option_map (row_meaning rs)) p.states) c.requires.returns in
     let chains : map (option_map (known_row returns)) c.deref-in-Ok.result.now ≡ map (option_map (row_meaning p.returns)) p.chain_states =
-    ap (map (option_map (known_row returns))) c.deref-in-Ok.ensures.value ∙ c.in-Ok.ensures.chains returns ∙ ap (λ rs. map (option_map (row_meaning rs)) p.chain_states) c.requires.returns in
-    let table : table_of (map (option_map (known_row returns)) c.deref.result.now) c.as_slice.result.now (map (option_map (known_row returns)) c.deref-in-Ok.result.now) ≡ own_table p = rw (blocks, chains, c.as_slice.ensures) refl in
+    ap (map (option_map (known_row returns))) c.deref-in-Ok.ensures.value ∙ c.in-Ok.ensures.chains returns
+    ∙ ap (λ rs. map (option_map (row_meaning rs)) p.chain_states) c.requires.returns in
+    let table : table_of (map (option_map (known_row returns)) c.deref.result.now) c.as_slice.result.now
+    (map (option_map (known_row returns)) c.deref-in-Ok.result.now) ≡ own_table p = rw (blocks, chains, c.as_slice.ensures) refl in
     subst (λ (t : Table). MayFind c.check_blocks.result (flow_checks p t)) table c.check_blocks.ensures

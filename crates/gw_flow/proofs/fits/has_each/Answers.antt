@@ -10,7 +10,8 @@ loop-entry-init g c = record { decides = record { same = refl; ascends = c.requi
 
 pub returns-then-key : goal.returns-then-key
 returns-then-key g c =
-    sym (lacking g.T.Keyed.key (g.T.Entry.enough c.args.by) c.args.held.now c.args.asked.now c.loop-entry.left.now c.loop-entry.entry-index c.loop-entry.invariant.decides
+    sym (lacking g.T.Keyed.key (g.T.Entry.enough c.args.by) c.args.held.now c.args.asked.now c.loop-entry.left.now c.loop-entry.entry-index
+    c.loop-entry.invariant.decides
     c.entry-item.result c.in-Some.next.now c.in-Some.later.now c.loop-entry-test.true c.entry-item.is (search rules) c.requires.held (search rules))
 
 pub suffices-requires-clause-asked : goal.suffices-requires-clause-asked
@@ -20,8 +21,10 @@ suffices-requires-clause-asked g c =
 
 pub returns-then-not-suffices : goal.returns-then-not-suffices
 returns-then-not-suffices g c =
-    sym (not_enough g.T.Keyed.key (g.T.Entry.enough c.args.by) c.args.held.now c.args.asked.now c.loop-entry.left.now c.loop-entry.entry-index c.loop-entry.invariant.decides
-    c.entry-item.result c.in-Some.next.now c.in-Some.later.now c.loop-entry-test.true c.entry-item.is (search rules) c.requires.held (search rules) (search rules))
+    sym (not_enough g.T.Keyed.key (g.T.Entry.enough c.args.by) c.args.held.now c.args.asked.now c.loop-entry.left.now
+    c.loop-entry.entry-index c.loop-entry.invariant.decides
+    c.entry-item.result c.in-Some.next.now c.in-Some.later.now c.loop-entry-test.true c.entry-item.is (search rules) c.requires.held
+    (search rules) (search rules))
 
 pub loop-entry-preserved : goal.loop-entry-preserved
 loop-entry-preserved g c =
@@ -29,14 +32,19 @@ loop-entry-preserved g c =
     elim c.if-key-2.branch [
       | then-key-2+else-not-suffices w ↦
           record {
-            decides = rw w.left-is (met g.T.Keyed.key (g.T.Entry.enough c.args.by) c.args.held.now c.args.asked.now c.loop-entry.left.now c.loop-entry.entry-index c.loop-entry.invariant.decides
-                c.entry-item.result c.in-Some.next.now c.in-Some.later.now c.loop-entry-test.true c.entry-item.is (search rules) c.requires.held (search rules) (search rules));
-            each = rw w.left-is (All-tail g.T.Entry.can_compare c.in-Some.next.now c.in-Some.later.now (subst (All g.T.Entry.can_compare) left c.loop-entry.invariant.each));
+            decides = rw w.left-is (met g.T.Keyed.key (g.T.Entry.enough c.args.by) c.args.held.now c.args.asked.now c.loop-entry.left.now
+                c.loop-entry.entry-index c.loop-entry.invariant.decides
+                c.entry-item.result c.in-Some.next.now c.in-Some.later.now c.loop-entry-test.true c.entry-item.is (search rules)
+                c.requires.held (search rules) (search rules));
+            each = rw w.left-is (All-tail g.T.Entry.can_compare c.in-Some.next.now c.in-Some.later.now
+                (subst (All g.T.Entry.can_compare) left c.loop-entry.invariant.each));
           }
       | else-key-2 w ↦
-          let apart : g.T.Keyed.key c.entry-item.result < g.T.Keyed.key c.in-Some.next.now = omega (arith, c.key.ensures, c.key-in-loop-entry.ensures, c.key-in-loop-entry-2.ensures, c.key-in-loop-entry-3.ensures, w.if-key-2.false) in
+          let apart : g.T.Keyed.key c.entry-item.result < g.T.Keyed.key c.in-Some.next.now =
+          omega (arith, c.key.ensures, c.key-in-loop-entry.ensures, c.key-in-loop-entry-2.ensures, c.key-in-loop-entry-3.ensures, w.if-key-2.false) in
           record {
-            decides = rw w.left-is (passed g.T.Keyed.key (g.T.Entry.enough c.args.by) c.args.held.now c.args.asked.now c.loop-entry.left.now c.loop-entry.entry-index c.loop-entry.invariant.decides
+            decides = rw w.left-is (passed g.T.Keyed.key (g.T.Entry.enough c.args.by) c.args.held.now c.args.asked.now
+                c.loop-entry.left.now c.loop-entry.entry-index c.loop-entry.invariant.decides
                 c.entry-item.result c.in-Some.next.now c.in-Some.later.now c.loop-entry-test.true c.entry-item.is (search rules) c.requires.held apart);
             each = rw w.left-is c.loop-entry.invariant.each;
           }
@@ -44,4 +52,6 @@ loop-entry-preserved g c =
 
 pub returns : goal.returns
 returns g c =
-    c.is_empty.ensures ∙ sym (at_end g.T.Keyed.key (g.T.Entry.enough c.args.by) c.args.held.now c.args.asked.now c.loop-entry.left.now c.loop-entry.entry-index c.loop-entry.invariant.decides c.loop-entry-test.false)
+    c.is_empty.ensures ∙ sym
+    (at_end g.T.Keyed.key (g.T.Entry.enough c.args.by) c.args.held.now c.args.asked.now c.loop-entry.left.now c.loop-entry.entry-index
+    c.loop-entry.invariant.decides c.loop-entry-test.false)

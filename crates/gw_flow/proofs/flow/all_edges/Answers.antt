@@ -14,5 +14,6 @@ returns-clause-own c =
     let block = c.args.block.now in
     let given = c.args.state.now.parameters in
     let all : HaveOwn (c.in_ok-edges.edges.items ++ option_to_list c.in_ok-members_move.field-0) c.args.number block given =
-    all_have_own p.returns (own_table p) c.args.number block (known_row p.returns c.args.state.now) given c.in_ok-edges.edges.items (option_to_list c.in_ok-members_move.field-0) (chain_use block) (search rules) c.in_ok-members_move.ensures c.in_ok-edges.ensures.own in
+    all_have_own p.returns (own_table p) c.args.number block (known_row p.returns c.args.state.now) given c.in_ok-edges.edges.items
+    (option_to_list c.in_ok-members_move.field-0) (chain_use block) (search rules) c.in_ok-members_move.ensures c.in_ok-edges.ensures.own in
     IfOk-weaker c.with_last.result _ _ (λ out is. rw is all) c.with_last.ensures

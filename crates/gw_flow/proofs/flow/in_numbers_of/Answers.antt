@@ -16,7 +16,11 @@ loop-edge-preserved c =
     record {
       same = λ rows each. rw c.in_ok-push.ensures.items (map-append (edge_meaning rows) c.loop-edge.out.items (made ∷ [])
           ∙ ap (λ xs. xs ++ edge_meaning rows made ∷ []) (c.loop-edge.invariant.same rows each)
-          ∙ ap (λ x. map flow_edge_meaning (take c.loop-edge.edge-index c.args.edges.now) ++ x ∷ []) (ap₂ said_of c.in_ok-edge_in_numbers_of.ensures.target (c.in_ok-edge_in_numbers_of.ensures.same rows (rw c.edge-item.is (each c.loop-edge.edge-index c.edge-item.result c.loop-edge-test.true))))
+          ∙ ap (λ x. map flow_edge_meaning (take c.loop-edge.edge-index c.args.edges.now) ++ x ∷ [])
+          (ap₂ said_of c.in_ok-edge_in_numbers_of.ensures.target
+          (c.in_ok-edge_in_numbers_of.ensures.same rows (rw c.edge-item.is (each c.loop-edge.edge-index c.edge-item.result c.loop-edge-test.true))))
           ∙ sym both ∙ ap (map flow_edge_meaning) (ap (λ x. take c.loop-edge.edge-index c.args.edges.now ++ x ∷ []) c.edge-item.is ∙ sym more));
-      own = rw c.in_ok-push.ensures.items (All-push (λ (e : Edge). e.state.parameters ≡ c.args.parameters.now) c.loop-edge.out.items made c.loop-edge.invariant.own c.in_ok-edge_in_numbers_of.ensures.own);
+      own = rw c.in_ok-push.ensures.items
+          (All-push (λ (e : Edge). e.state.parameters ≡ c.args.parameters.now) c.loop-edge.out.items made c.loop-edge.invariant.own
+          c.in_ok-edge_in_numbers_of.ensures.own);
     }

@@ -10,7 +10,8 @@ returns-in_err-check_exit c =
     let check = edge_check (table_viewed c.args.table) c.args.number in
     let passed = known_row c.args.table.returns.now c.args.passed.now in
     let p = err_from_is_err_and c.from_residual.result c.from_residual.ensures.1 in
-    rw (p.1, p.2) (stops_along check c.args.number passed c.args.exits.now c.loop-exit.exit-index _ _ c.loop-exit-test.true c.loop-exit.invariant _ c.in_err-check_exit.ensures)
+    rw (p.1, p.2) (stops_along check c.args.number passed c.args.exits.now c.loop-exit.exit-index _ _ c.loop-exit-test.true
+    c.loop-exit.invariant _ c.in_err-check_exit.ensures)
 
 pub loop-exit-preserved : goal.loop-exit-preserved
 loop-exit-preserved c =

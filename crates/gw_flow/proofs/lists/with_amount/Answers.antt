@@ -12,10 +12,21 @@ use Rattle.gw_flow.proofs.lists.with_amount.Goals as goal
 pub returns : goal.returns
 returns c =
     let below : c.in_ok-all.all.items ≡ filter (λ (a : Amount). nat_lt a.entity c.args.entity) c.args.amounts.now =
-    IfOk-at_ok _ c.in_ok-all.was (items_from_collect _ c.collect.ensures.ran (YieldsList-from_filter _ (λ (a : Amount). nat_lt a.entity c.args.entity) (YieldsList-at c.filter.ensures.source (YieldsList-from_copied (YieldsList-at c.copied.ensures.source (YieldsList-from_slice c.args.amounts.now cc)))) c.filter.ensures.closure (λ x b q k. search rules))) in
+    IfOk-at_ok _ c.in_ok-all.was
+    (items_from_collect _ c.collect.ensures.ran
+    (YieldsList-from_filter _ (λ (a : Amount). nat_lt a.entity c.args.entity)
+    (YieldsList-at c.filter.ensures.source
+    (YieldsList-from_copied (YieldsList-at c.copied.ensures.source (YieldsList-from_slice c.args.amounts.now cc))))
+    c.filter.ensures.closure (λ x b q k. search rules))) in
     let above : c.in_ok-above.above.items ≡ filter (λ (a : Amount). nat_lt c.args.entity a.entity) c.args.amounts.now =
-    IfOk-at_ok _ c.in_ok-above.was (items_from_collect _ c.collect-2.ensures.ran (YieldsList-from_filter _ (λ (a : Amount). nat_lt c.args.entity a.entity) (YieldsList-at c.filter-2.ensures.source (YieldsList-from_copied (YieldsList-at c.copied-2.ensures.source (YieldsList-from_slice c.args.amounts.now cc)))) c.filter-2.ensures.closure (λ x b q k. search rules))) in
-    let whole : c.extend_from_slice.new.self.items ≡ c.if-number-ne0.all.items ++ c.in_ok-above.above.items = c.in_ok-extend_from_slice.ensures.items ∙ ap (λ ys. c.if-number-ne0.all.items ++ ys) c.deref.ensures.value in
+    IfOk-at_ok _ c.in_ok-above.was
+    (items_from_collect _ c.collect-2.ensures.ran
+    (YieldsList-from_filter _ (λ (a : Amount). nat_lt c.args.entity a.entity)
+    (YieldsList-at c.filter-2.ensures.source
+    (YieldsList-from_copied (YieldsList-at c.copied-2.ensures.source (YieldsList-from_slice c.args.amounts.now cc))))
+    c.filter-2.ensures.closure (λ x b q k. search rules))) in
+    let whole : c.extend_from_slice.new.self.items ≡ c.if-number-ne0.all.items ++ c.in_ok-above.above.items =
+    c.in_ok-extend_from_slice.ensures.items ∙ ap (λ ys. c.if-number-ne0.all.items ++ ys) c.deref.ensures.value in
     let here : amounts_of c.if-number-ne0.all.items ≡ amounts_of c.in_ok-all.all.items ++ entered c.args.entity c.args.number = elim c.if-number-ne0.branch [
       | then-number-ne0+in_ok-push w ↦
           let pushed : c.if-number-ne0.all.items ≡ c.in_ok-all.all.items ++ record { entity = c.args.entity; number = c.args.number } ∷ [] = search rules in
@@ -24,4 +35,5 @@ returns c =
           let same : c.if-number-ne0.all.items ≡ c.in_ok-all.all.items = search rules in
           ap amounts_of same ∙ amounts-none _ _ _ w.if-number-ne0.false
     ] in
-    ap amounts_of (whole ∙ ap (λ xs. c.if-number-ne0.all.items ++ xs) above) ∙ written c.args.entity c.args.number c.args.amounts.now c.in_ok-all.all.items c.if-number-ne0.all.items below here
+    ap amounts_of (whole ∙ ap (λ xs. c.if-number-ne0.all.items ++ xs) above)
+    ∙ written c.args.entity c.args.number c.args.amounts.now c.in_ok-all.all.items c.if-number-ne0.all.items below here

@@ -12,4 +12,5 @@ returns-then-own_suffices c = λ fit pass.
     let state = known_row returns c.args.this.state.now in
     let row = known_row returns c.args.earlier.state.now in
     let fits = (fits_is_decided state row).0 (sym c.fits.ensures ∙ fit) in
-    returns_like (table_viewed c.args.table) (kind_seen returns c.args.this.kind) (kind_seen returns c.args.earlier.kind) state row (sym c.own_suffices.ensures ∙ c.if-own_suffices.true) fits pass
+    returns_like (table_viewed c.args.table) (kind_seen returns c.args.this.kind) (kind_seen returns c.args.earlier.kind) state row
+    (sym c.own_suffices.ensures ∙ c.if-own_suffices.true) fits pass

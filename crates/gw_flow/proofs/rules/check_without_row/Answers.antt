@@ -20,9 +20,11 @@ pub returns-in_err-check_values-in-Generate : goal.returns-in_err-check_values-i
 returns-in_err-check_values-in-Generate c =
     let all = of_generate c.args.parts.now c.args.number c.args.block.now (ap (λ block. is_generate (Some block)) c.in-Generate.is) in
     let p = err_from_is_err_and c.from_residual.result c.from_residual.ensures.1 in
-    rw (p.1, p.2) (rw all (stops_first (map (rule_check c.args.number) (value_rules c.args.parts.now c.args.block.now nothing_known)) _ _ c.in_err-check_values-in-Generate.ensures))
+    rw (p.1, p.2) (rw all (stops_first (map (rule_check c.args.number) (value_rules c.args.parts.now c.args.block.now nothing_known)) _ _
+    c.in_err-check_values-in-Generate.ensures))
 
 pub returns-in_ok-check_values-in-Generate : goal.returns-in_ok-check_values-in-Generate
 returns-in_ok-check_values-in-Generate c =
     let all = of_generate c.args.parts.now c.args.number c.args.block.now (ap (λ block. is_generate (Some block)) c.in-Generate.is) in
-    rw all (joined c.check.result (map (rule_check c.args.number) (value_rules c.args.parts.now c.args.block.now nothing_known)) _ c.in_ok-check_values-in-Generate.ensures c.check.ensures)
+    rw all (joined c.check.result (map (rule_check c.args.number) (value_rules c.args.parts.now c.args.block.now nothing_known)) _
+    c.in_ok-check_values-in-Generate.ensures c.check.ensures)

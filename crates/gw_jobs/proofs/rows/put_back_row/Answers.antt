@@ -13,7 +13,8 @@ index_mut-requires c =
     let t = c.task.inside in
     let there : IsOutWith t.sim.job (slice_get rows t.slot) → t.slot < length rows =
     λ out. let found = out_row t.sim.job (slice_get rows t.slot) out in slice_get_within rows t.slot found.0 found.1 in
-    let within : t.slot < length rows = subst (λ (u : Task). IsOutWith u.sim.job (slice_get rows u.slot) → t.slot < length rows) c.task.view_is there c.requires in
+    let within : t.slot < length rows =
+    subst (λ (u : Task). IsOutWith u.sim.job (slice_get rows u.slot) → t.slot < length rows) c.task.view_is there c.requires in
     search rules
 
 pub put_back-requires-clause-job : goal.put_back-requires-clause-job
@@ -41,5 +42,8 @@ returns-clause-rows c =
     let rows = c.args.rows.now.items in
     let t = c.task.inside in
     let put : IsOutWith t.sim.job (slice_get rows t.slot) → set rows t.slot c.put_back.new.self ≡ change_row t.slot (returned_row t.sim.state.steps) rows =
-    λ out. let found = out_row t.sim.job (slice_get rows t.slot) out in changed-at rows t.slot (returned_row t.sim.state.steps) c.index_mut.result.now c.put_back.new.self found.0 found.1 c.index_mut.ensures.value c.put_back.ensures in
-    subst (λ (u : Task). IsOutWith u.sim.job (slice_get rows u.slot) → set rows t.slot c.put_back.new.self ≡ change_row u.slot (returned_row u.sim.state.steps) rows) c.task.view_is put c.requires
+    λ out. let found = out_row t.sim.job (slice_get rows t.slot) out in
+    changed-at rows t.slot (returned_row t.sim.state.steps) c.index_mut.result.now c.put_back.new.self found.0 found.1
+    c.index_mut.ensures.value c.put_back.ensures in
+    subst (λ (u : Task). IsOutWith u.sim.job (slice_get rows u.slot) → set rows t.slot c.put_back.new.self
+    ≡ change_row u.slot (returned_row u.sim.state.steps) rows) c.task.view_is put c.requires

@@ -62,25 +62,36 @@ pub returns-in_err-check_each-2 : goal.returns-in_err-check_each-2
 returns-in_err-check_each-2 c =
     let p = c.args.parts.now in
     let is = err_from_is_err_and c.from_residual-in_err-check_each-2.result c.from_residual-in_err-check_each-2.ensures.1 in
-    rw (is.1, is.2) (behind_entities p (Err _) (rw c.as_slice.ensures at c.in_ok-check_each.ensures) (stops_first (procedures p) (return_and_later_checks p) _ (rw c.as_slice-2.ensures at c.in_err-check_each-2.ensures)))
+    rw (is.1, is.2) (behind_entities p (Err _) (rw c.as_slice.ensures at c.in_ok-check_each.ensures)
+    (stops_first (procedures p) (return_and_later_checks p) _ (rw c.as_slice-2.ensures at c.in_err-check_each-2.ensures)))
 
 pub returns-in_err-check_each-3 : goal.returns-in_err-check_each-3
 returns-in_err-check_each-3 c =
     let p = c.args.parts.now in
     let is = err_from_is_err_and c.from_residual-in_err-check_each-3.result c.from_residual-in_err-check_each-3.ensures.1 in
-    rw (is.1, is.2) (behind_procedures p (Err _) (rw c.as_slice.ensures at c.in_ok-check_each.ensures) (rw c.as_slice-2.ensures at c.in_ok-check_each-2.ensures) (stops_first (return_rows p) (row_and_later_checks p) _ (rw c.as_slice-3.ensures at c.in_err-check_each-3.ensures)))
+    rw (is.1, is.2) (behind_procedures p (Err _) (rw c.as_slice.ensures at c.in_ok-check_each.ensures)
+    (rw c.as_slice-2.ensures at c.in_ok-check_each-2.ensures)
+    (stops_first (return_rows p) (row_and_later_checks p) _ (rw c.as_slice-3.ensures at c.in_err-check_each-3.ensures)))
 
 pub returns-in_err-check_each-4 : goal.returns-in_err-check_each-4
 returns-in_err-check_each-4 c =
     let p = c.args.parts.now in
     let is = err_from_is_err_and c.from_residual-in_err-check_each-4.result c.from_residual-in_err-check_each-4.ensures.1 in
-    rw (is.1, is.2) (behind_returns p (Err _) (rw c.as_slice.ensures at c.in_ok-check_each.ensures) (rw c.as_slice-2.ensures at c.in_ok-check_each-2.ensures) (rw c.as_slice-3.ensures at c.in_ok-check_each-3.ensures) (stops_first (block_rows p) (chain_and_block_checks p) _ (rw c.as_slice-4.ensures at c.in_err-check_each-4.ensures)))
+    rw (is.1, is.2) (behind_returns p (Err _) (rw c.as_slice.ensures at c.in_ok-check_each.ensures)
+    (rw c.as_slice-2.ensures at c.in_ok-check_each-2.ensures) (rw c.as_slice-3.ensures at c.in_ok-check_each-3.ensures)
+    (stops_first (block_rows p) (chain_and_block_checks p) _ (rw c.as_slice-4.ensures at c.in_err-check_each-4.ensures)))
 
 pub returns-in_err-check_each-5 : goal.returns-in_err-check_each-5
 returns-in_err-check_each-5 c =
     let p = c.args.parts.now in
     let is = err_from_is_err_and c.from_residual-in_err-check_each-5.result c.from_residual-in_err-check_each-5.ensures.1 in
-    rw (is.1, is.2) (behind_rows p (Err _) (rw c.as_slice.ensures at c.in_ok-check_each.ensures) (rw c.as_slice-2.ensures at c.in_ok-check_each-2.ensures) (rw c.as_slice-3.ensures at c.in_ok-check_each-3.ensures) (rw c.as_slice-4.ensures at c.in_ok-check_each-4.ensures) (stops_first (chain_rows p) (blocks p) _ (rw c.as_slice-5.ensures at c.in_err-check_each-5.ensures)))
+    rw (is.1, is.2) (behind_rows p (Err _) (rw c.as_slice.ensures at c.in_ok-check_each.ensures)
+    (rw c.as_slice-2.ensures at c.in_ok-check_each-2.ensures) (rw c.as_slice-3.ensures at c.in_ok-check_each-3.ensures)
+    (rw c.as_slice-4.ensures at c.in_ok-check_each-4.ensures)
+    (stops_first (chain_rows p) (blocks p) _ (rw c.as_slice-5.ensures at c.in_err-check_each-5.ensures)))
 
 pub returns : goal.returns
-returns c = behind_chains c.args.parts.now c.check_each-6.result (rw c.as_slice.ensures at c.in_ok-check_each.ensures) (rw c.as_slice-2.ensures at c.in_ok-check_each-2.ensures) (rw c.as_slice-3.ensures at c.in_ok-check_each-3.ensures) (rw c.as_slice-4.ensures at c.in_ok-check_each-4.ensures) (rw c.as_slice-5.ensures at c.in_ok-check_each-5.ensures) (rw c.as_slice-6.ensures at c.check_each-6.ensures)
+returns c = behind_chains c.args.parts.now c.check_each-6.result (rw c.as_slice.ensures at c.in_ok-check_each.ensures)
+    (rw c.as_slice-2.ensures at c.in_ok-check_each-2.ensures) (rw c.as_slice-3.ensures at c.in_ok-check_each-3.ensures)
+    (rw c.as_slice-4.ensures at c.in_ok-check_each-4.ensures) (rw c.as_slice-5.ensures at c.in_ok-check_each-5.ensures)
+    (rw c.as_slice-6.ensures at c.check_each-6.ensures)

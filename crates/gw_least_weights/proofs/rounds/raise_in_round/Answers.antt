@@ -10,5 +10,6 @@ pub loop-i-preserved : goal.loop-i-preserved
 loop-i-preserved c =
     let rules = c.args.rules.now in
     let done = c.raise_for-raised.ensures in
-    goes_on rules c.args.counted (length c.args.weights.now) c.requires.order c.args.weights.now c.loop-i.weights _ c.loop-i.raised c.raise_for-raised.result c.loop-i.i _ c.loop-i.invariant c.loop-i-test.true
+    goes_on rules c.args.counted (length c.args.weights.now) c.requires.order c.args.weights.now c.loop-i.weights _ c.loop-i.raised
+    c.raise_for-raised.result c.loop-i.i _ c.loop-i.invariant c.loop-i-test.true
     (λ d. get_or_default rules c.loop-i.i d _ c.loop-i-test.true) done.raised done.still

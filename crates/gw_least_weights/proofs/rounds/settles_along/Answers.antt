@@ -10,7 +10,8 @@ returns-clause-least c =
     let begins = rounds_begin rules c.args.counted n c.args.weights.now refl c.requires.ones c.requires.order in
     let raised = c.raise_along.ensures.raised in
     λ settled. still_least rules c.args.counted n c.raise_along.new.weights c.raise_in_round.new.weights (sym raised.grown.many) (raised.range begins.range)
-    (λ u certificate. raised.below u certificate.keeps (near_under rules c.args.counted n _ c.args.weights.now begins u certificate)) c.raise_in_round.ensures.round
+    (λ u certificate. raised.below u certificate.keeps (near_under rules c.args.counted n _ c.args.weights.now begins u certificate))
+    c.raise_in_round.ensures.round
     (c.raise_in_round.ensures.still (not-true c.raise_in_round.result settled))
 
 pub returns-clause-range : goal.returns-clause-range

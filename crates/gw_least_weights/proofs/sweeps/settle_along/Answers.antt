@@ -14,7 +14,8 @@ returns-then-not-sweep-clause-least c =
     let n = length c.args.weights.now in
     let raised = raised_both _ _ c.loop.weights _ c.loop.invariant c.sweep.ensures.raised in
     let under = raised_under rules c.args.counted n _ c.sweep.new.weights c.requires.under raised in
-    λ settled. still_least rules c.args.counted n c.sweep.new.weights c.raise_in_round.new.weights (sym raised.grown.many) under.range under.below c.raise_in_round.ensures.round
+    λ settled. still_least rules c.args.counted n c.sweep.new.weights c.raise_in_round.new.weights (sym raised.grown.many) under.range
+    under.below c.raise_in_round.ensures.round
     (c.raise_in_round.ensures.still (not-true c.raise_in_round.result settled))
 
 pub returns-then-not-sweep-clause-range : goal.returns-then-not-sweep-clause-range

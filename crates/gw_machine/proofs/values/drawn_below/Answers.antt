@@ -8,5 +8,6 @@ value_is c = search rules
 pub returns : goal.returns
 returns c =
     let within : c.args.number - 1 < length c.args.streams.now = omega arith in
-    below-drawn c.args.bound c.args.number c.args.streams.now c.index-streams-place.result _ _ within c.below_from-drawn.ensures.drawn c.below_from-drawn.ensures.stream
+    below-drawn c.args.bound c.args.number c.args.streams.now c.index-streams-place.result _ _ within c.below_from-drawn.ensures.drawn
+    c.below_from-drawn.ensures.stream
     ∙ ap (λ (z : ℤ). (z, slice_set c.args.streams.now (c.args.number - 1) c.below_from-drawn.result.1)) (sym (value_is c))

@@ -14,7 +14,8 @@ returns-then-index-entries c =
     let again : at nobody ws c.args.i ≡ c.index_mut.result.now = at-get_or_any nobody _ ws c.args.i there.within ∙ sym c.index_mut.ensures.value in
     let told : c.index.result.now.entries ≡ c.args.entries = search rules in
     subst (CountsEntry c.args.block c.args.entries ws) (sym (set-put nobody ws c.args.i _ there.within))
-    (entry-told ws c.args.i _ c.args.block c.args.entries there (ap (λ (w : Want). w.entries) read ∙ told) (sym (ap (λ (w : Want). w.block) again)) (sym (ap (λ (w : Want). w.waiting) again)) refl)
+    (entry-told ws c.args.i _ c.args.block c.args.entries there (ap (λ (w : Want). w.entries) read ∙ told)
+    (sym (ap (λ (w : Want). w.block) again)) (sym (ap (λ (w : Want). w.waiting) again)) refl)
 
 pub returns-else-index-entries : goal.returns-else-index-entries
 returns-else-index-entries c = entry-untold c.args.wants.now.items c.args.block c.args.entries

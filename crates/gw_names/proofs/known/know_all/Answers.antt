@@ -18,4 +18,5 @@ returns-clause-ledger c =
     c.in_ok-see_sites.ensures.ledger ∙ ap (λ l. with_notes before (entity_limits_after (keys_of l) ms)) c.requires.sighted in
     let second : c.parameters_in.new.ledger.least ≡ with_notes between (parameter_limits_among ms) =
     c.in_ok-known.ensures.ledger ∙ ap (λ l. with_notes between (parameter_limits_among l)) again in
-    on_ok c.label_all.result (λ knows. limits_noted c.args.statements.now ms is before between c.parameters_in.new.ledger.least first second) c.label_all.ensures
+    on_ok c.label_all.result
+    (λ knows. limits_noted c.args.statements.now ms is before between c.parameters_in.new.ledger.least first second) c.label_all.ensures

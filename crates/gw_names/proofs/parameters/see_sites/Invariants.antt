@@ -9,6 +9,8 @@ use Rattle.gw_names.proofs.parameters.see_sites.Given as goal
 abbrev pub invariant-loop-i : goal.invariant-loop-i
 invariant-loop-i l = record {
   given : HaveNumbers l.free l.parameters;
-  names : parameters_after l.free (names_of l.fn.parameters) (map mention_at l.sites) ≡ parameters_after l.free (names_of l.parameters) (map mention_at (drop l.i l.sites));
-  ledger : with_notes l.fn.ledger.least (parameter_limits_after l.free (names_of l.fn.parameters) (map mention_at l.sites)) ≡ with_notes l.ledger.least (parameter_limits_after l.free (names_of l.parameters) (map mention_at (drop l.i l.sites)));
+  names : parameters_after l.free (names_of l.fn.parameters) (map mention_at l.sites)
+      ≡ parameters_after l.free (names_of l.parameters) (map mention_at (drop l.i l.sites));
+  ledger : with_notes l.fn.ledger.least (parameter_limits_after l.free (names_of l.fn.parameters) (map mention_at l.sites))
+      ≡ with_notes l.ledger.least (parameter_limits_after l.free (names_of l.parameters) (map mention_at (drop l.i l.sites)));
 }

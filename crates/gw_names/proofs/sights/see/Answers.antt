@@ -37,7 +37,9 @@ returns-then-len-lt-MOST_ENTITIES-clause-keys c =
     let new = known (goal.at.returns-then-len-lt-MOST_ENTITIES-clause-keys c).After-is_some ∙ c.if-is_some.false in
     let long : c.len.result ≡ length c.args.sighted.now.items = search rules in
     let few : length keys < 1024 = omega (arith, length-map c.args.sighted.now.items key_of) in
-    on_ok c.add.result (λ grown. grown ∙ sym (seen_now entity_in is_same most_entities keys c.args.line (key c.args.kind (string_bytes c.args.name.now)) new (lt-ltb (length keys) 1024 few))) c.add.ensures.keys
+    on_ok c.add.result (λ grown. grown
+    ∙ sym (seen_now entity_in is_same most_entities keys c.args.line (key c.args.kind (string_bytes c.args.name.now)) new
+    (lt-ltb (length keys) 1024 few))) c.add.ensures.keys
 
 pub returns-else-len-lt-MOST_ENTITIES-clause-ledger : goal.returns-else-len-lt-MOST_ENTITIES-clause-ledger
 returns-else-len-lt-MOST_ENTITIES-clause-ledger c =
@@ -46,4 +48,5 @@ returns-else-len-lt-MOST_ENTITIES-clause-ledger c =
     let new = known (goal.at.returns-else-len-lt-MOST_ENTITIES-clause-ledger c).After-is_some ∙ c.if-is_some.false in
     let many : 1024 ≤ length keys = omega (arith, length-map c.args.sighted.now.items key_of) in
     let full : nat_lt (length keys) 1024 ≡ false = grind (arith, nat_tests) in
-    c.note.ensures ∙ ap (with_notes c.args.ledger.now.least) (sym (noted_now entity_in is_same most_entities keys c.args.line (key c.args.kind (string_bytes c.args.name.now)) new full))
+    c.note.ensures ∙ ap (with_notes c.args.ledger.now.least)
+    (sym (noted_now entity_in is_same most_entities keys c.args.line (key c.args.kind (string_bytes c.args.name.now)) new full))

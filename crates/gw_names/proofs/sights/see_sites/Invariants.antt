@@ -10,5 +10,6 @@ abbrev pub invariant-loop-i : goal.invariant-loop-i
 invariant-loop-i l = record {
   sighted : IsSighted l.declarations l.entities l.sighted.items;
   keys : entities_after (keys_of l.fn.sighted.items) (map mention_at l.sites) ≡ entities_after (keys_of l.sighted.items) (map mention_at (drop l.i l.sites));
-  ledger : with_notes l.fn.ledger.least (entity_limits_after (keys_of l.fn.sighted.items) (map mention_at l.sites)) ≡ with_notes l.ledger.least (entity_limits_after (keys_of l.sighted.items) (map mention_at (drop l.i l.sites)));
+  ledger : with_notes l.fn.ledger.least (entity_limits_after (keys_of l.fn.sighted.items) (map mention_at l.sites))
+      ≡ with_notes l.ledger.least (entity_limits_after (keys_of l.sighted.items) (map mention_at (drop l.i l.sites)));
 }

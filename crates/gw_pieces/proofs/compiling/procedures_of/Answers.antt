@@ -16,10 +16,12 @@ loop-place-preserved c =
     let n = numbers_of c.args.plan.now.names in
     let ss = c.args.plan.now.text.now.statements.items in
     let room : i < 256 = omega (arith, c.loop-place-test.true, c.min-place-end.ensures) in
-    let there = slice_get_read order (length order) i c.index.result.now refl (omega (arith, c.loop-place-test.true, c.min-place-end.ensures)) c.index.ensures in
+    let there = slice_get_read order (length order) i c.index.result.now refl
+    (omega (arith, c.loop-place-test.true, c.min-place-end.ensures)) c.index.ensures in
     record {
       clear = λ none. h.clear (grown none).0;
-      compiled = λ none. one_further_compiled (numbers_of c.args.plan.now.names) c.args.plan.now.text.now.statements.items order i _ there c.loop-place.procedures.items c.put_procedure_from.new.code.items (h.compiled (grown none).0) (grown none).1;
+      compiled = λ none. one_further_compiled (numbers_of c.args.plan.now.names) c.args.plan.now.text.now.statements.items order i _ there
+          c.loop-place.procedures.items c.put_procedure_from.new.code.items (h.compiled (grown none).0) (grown none).1;
       notes = further _ _ _ (before_or_at n order ss i) h.notes (at_origin n order ss i _ there room _ _ c.in_ok-put_procedure_from.ensures.notes);
     }
 

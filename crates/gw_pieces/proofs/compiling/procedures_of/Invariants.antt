@@ -10,6 +10,9 @@ use Rattle.gw_pieces.proofs.compiling.procedures_of.Given as goal
 abbrev pub invariant-loop-place : goal.invariant-loop-place
 invariant-loop-place l = record {
   clear : l.ledger.least ≡ None → l.fn.ledger.least ≡ None;
-  compiled : l.ledger.least ≡ None → AreCompiled (numbers_of l.plan.names) l.plan.text.now.statements.items (take l.place l.plan.order.items) l.procedures.items;
-  notes : NotesMore (CodeLimit (numbers_of l.plan.names) l.plan.order.items l.plan.text.now.statements.items) (DueBefore (numbers_of l.plan.names) l.plan.order.items l.plan.text.now.statements.items l.place) (ProcedureMissing (numbers_of l.plan.names) l.plan.order.items l.plan.text.now.statements.items) l.fn.ledger.least l.ledger.least;
+  compiled : l.ledger.least ≡ None
+      → AreCompiled (numbers_of l.plan.names) l.plan.text.now.statements.items (take l.place l.plan.order.items) l.procedures.items;
+  notes : NotesMore (CodeLimit (numbers_of l.plan.names) l.plan.order.items l.plan.text.now.statements.items)
+      (DueBefore (numbers_of l.plan.names) l.plan.order.items l.plan.text.now.statements.items l.place)
+      (ProcedureMissing (numbers_of l.plan.names) l.plan.order.items l.plan.text.now.statements.items) l.fn.ledger.least l.ledger.least;
 }

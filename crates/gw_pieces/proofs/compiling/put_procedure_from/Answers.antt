@@ -12,14 +12,16 @@ returns-in-Some-clause-grown c =
     let ss = c.args.plan.now.text.now.statements.items in
     let read = c.in-Some.ensures.lookup.3 in
     let there = read_at ss c.deref.result.now c.args.origin.statement c.in-Some.statement.now c.deref.ensures.value read.0 read.1 in
-    on_ok c.put_procedure.result (λ f none. ((f none).0, comes_from _ ss c.args.origin c.in-Some.statement.now there _ _ (f none).1)) c.put_procedure.ensures.grown
+    on_ok c.put_procedure.result (λ f none. ((f none).0, comes_from _ ss c.args.origin c.in-Some.statement.now there _ _ (f none).1))
+    c.put_procedure.ensures.grown
 
 pub returns-in-Some-clause-notes : goal.returns-in-Some-clause-notes
 returns-in-Some-clause-notes c =
     let ss = c.args.plan.now.text.now.statements.items in
     let read = c.in-Some.ensures.lookup.3 in
     let there = read_at ss c.deref.result.now c.args.origin.statement c.in-Some.statement.now c.deref.ensures.value read.0 read.1 in
-    on_ok c.put_procedure.result (at_statement (numbers_of c.args.plan.now.names) ss c.args.origin c.in-Some.statement.now there _ _) c.put_procedure.ensures.notes
+    on_ok c.put_procedure.result (at_statement (numbers_of c.args.plan.now.names) ss c.args.origin c.in-Some.statement.now there _ _)
+    c.put_procedure.ensures.notes
 
 pub returns-in-None-clause-notes : goal.returns-in-None-clause-notes
 returns-in-None-clause-notes c =
@@ -27,4 +29,6 @@ returns-in-None-clause-notes c =
     let none = none_at ss c.deref.result.now c.args.origin.statement c.deref.ensures.value c.in-None.ensures.lookup.3 in
     let least = c.args.ledger.now.least in
     let n = numbers_of c.args.plan.now.names in
-    on_ok c.note_blamed.result (λ is. ends_with least (or_missing least 0) _ is (one_missing least 0 (astray_origin n ss c.args.origin none) (none_due n ss c.args.origin none))) c.note_blamed.ensures.notes
+    on_ok c.note_blamed.result
+    (λ is. ends_with least (or_missing least 0) _ is
+    (one_missing least 0 (astray_origin n ss c.args.origin none) (none_due n ss c.args.origin none))) c.note_blamed.ensures.notes

@@ -18,11 +18,19 @@ loop-number-preserved c =
       savevalues = h.savevalues;
       switches = h.switches;
       clear = λ none. h.clear (grown none).0;
-      entities = λ none. one_more_sighted (numbers_of c.args.plan.now.names) c.args.plan.now.order.items c.args.plan.now.text.now.statements.items sighted i s at c.loop-number.entities.items c.put_entity.new.entities.items (grown none).1 (h.entities (grown none).0);
-      notes = further_missing _ _ _ h.notes (at_sight (numbers_of c.args.plan.now.names) c.args.plan.now.order.items c.args.plan.now.text.now.statements.items sighted i s at _ _ c.in-Ok.ensures.notes);
+      entities = λ none. one_more_sighted (numbers_of c.args.plan.now.names) c.args.plan.now.order.items
+          c.args.plan.now.text.now.statements.items sighted i s at c.loop-number.entities.items c.put_entity.new.entities.items
+          (grown none).1 (h.entities (grown none).0);
+      notes = further_missing _ _ _ h.notes
+          (at_sight (numbers_of c.args.plan.now.names) c.args.plan.now.order.items c.args.plan.now.text.now.statements.items sighted i s at
+          _ _ c.in-Ok.ensures.notes);
     }
 
 pub returns-clause-sighted : goal.returns-clause-sighted
 returns-clause-sighted c none =
-    let h = c.loop-number.invariant in
-    (h.clear none, all_sighted (numbers_of c.args.plan.now.names) c.args.plan.now.order.items c.args.plan.now.text.now.statements.items c.args.plan.now.sighted.items c.loop-number.number (omega (arith, c.loop-number-test.false, c.len-number-end.ensures)) c.loop-number.entities.items (h.entities none))
+    let h = c.loop-number.invariant in (
+      h.clear none,
+      all_sighted (numbers_of c.args.plan.now.names) c.args.plan.now.order.items c.args.plan.now.text.now.statements.items
+          c.args.plan.now.sighted.items c.loop-number.number (omega (arith, c.loop-number-test.false, c.len-number-end.ensures))
+          c.loop-number.entities.items (h.entities none),
+    )

@@ -14,6 +14,9 @@ invariant-loop-number l = record {
   savevalues : (x : List ℕ) → found_in l.initials.savevalues x ≡ last_of (savevalues_in l.plan.text.now.statements.items) x;
   switches : (x : List ℕ) → found_in l.initials.switches x ≡ last_of (switches_in l.plan.text.now.statements.items) x;
   clear : l.ledger.least ≡ None → l.fn.ledger.least ≡ None;
-  entities : l.ledger.least ≡ None → (rest : List Entity) → AreSightedAs (numbers_of l.plan.names) l.plan.order.items l.plan.text.now.statements.items (drop l.number l.plan.sighted.items) rest → AreSightedAs (numbers_of l.plan.names) l.plan.order.items l.plan.text.now.statements.items l.plan.sighted.items (l.entities.items ++ rest);
-  notes : NotesMissing (EntityMissing (numbers_of l.plan.names) l.plan.order.items l.plan.text.now.statements.items l.plan.sighted.items) l.fn.ledger.least l.ledger.least;
+  entities : l.ledger.least ≡ None → (rest : List Entity)
+      → AreSightedAs (numbers_of l.plan.names) l.plan.order.items l.plan.text.now.statements.items (drop l.number l.plan.sighted.items)
+      rest → AreSightedAs (numbers_of l.plan.names) l.plan.order.items l.plan.text.now.statements.items l.plan.sighted.items (l.entities.items ++ rest);
+  notes : NotesMissing (EntityMissing (numbers_of l.plan.names) l.plan.order.items l.plan.text.now.statements.items l.plan.sighted.items)
+      l.fn.ledger.least l.ledger.least;
 }

@@ -13,6 +13,8 @@ loop-i-preserved c =
     let before = c.loop-i.meanings in
     let after = c.put_meaning_of.new.meanings in
     record {
-      procedures = λ name. entries_step (callee_of_origin ss) order i _ name (found_in before.procedures name) (found_in after.procedures name) _ at (c.in_ok-put_meaning_of.ensures.procedures name) (c.loop-i.invariant.procedures name);
-      equs = λ name. entries_step (equ_of_origin ss) order i _ name (found_in before.equs name) (found_in after.equs name) _ at (c.in_ok-put_meaning_of.ensures.equs name) (c.loop-i.invariant.equs name);
+      procedures = λ name. entries_step (callee_of_origin ss) order i _ name (found_in before.procedures name)
+          (found_in after.procedures name) _ at (c.in_ok-put_meaning_of.ensures.procedures name) (c.loop-i.invariant.procedures name);
+      equs = λ name. entries_step (equ_of_origin ss) order i _ name (found_in before.equs name) (found_in after.equs name) _ at
+          (c.in_ok-put_meaning_of.ensures.equs name) (c.loop-i.invariant.equs name);
     }

@@ -11,4 +11,5 @@ loop-i-preserved c = λ name.
     let i = c.loop-i.i in
     let s = c.index-statements-i.result in
     let at = slice_get_read ss (length ss) i s refl c.loop-i-test.true c.index-statements-i.is in
-    entries_step (equ_of_number (found_in c.args.known.now.equ_numbers)) ss i s name (found_in c.loop-i.equs name) (found_in c.put_number.new.equs name) _ at (c.in_ok-put_number.ensures name) (c.loop-i.invariant name)
+    entries_step (equ_of_number (found_in c.args.known.now.equ_numbers)) ss i s name (found_in c.loop-i.equs name)
+    (found_in c.put_number.new.equs name) _ at (c.in_ok-put_number.ensures name) (c.loop-i.invariant name)

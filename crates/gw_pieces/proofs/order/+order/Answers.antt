@@ -9,8 +9,11 @@ pub visit-returns-in_ok-visit_callees-in-Some : goal.visit-returns-in_ok-visit_c
 visit-returns-in_ok-visit_callees-in-Some t c =
     let l = lookup_of c.args.text.now in
     let before = search_of c.args.order.now in
-    let is = sym c.in-Some.is ∙ c.unvisited.ensures ∙ ap (λ v. origin_unless_visited (slice_get v c.args.place) (slice_get l.origins c.args.place)) c.deref.ensures.value in
-    on_ok c.put_origin.result (λ grown. visited l (search_to l c.args.depth) before _ (search_of c.visit_callees.new.order) c.args.place c.in-Some.origin _ is (ap (λ v. record { visited = v; done = before.done }) c.mark.ensures) c.in_ok-visit_callees-in-Some.ensures grown) c.put_origin.ensures
+    let is = sym c.in-Some.is ∙ c.unvisited.ensures
+    ∙ ap (λ v. origin_unless_visited (slice_get v c.args.place) (slice_get l.origins c.args.place)) c.deref.ensures.value in
+    on_ok c.put_origin.result
+    (λ grown. visited l (search_to l c.args.depth) before _ (search_of c.visit_callees.new.order) c.args.place c.in-Some.origin _ is
+    (ap (λ v. record { visited = v; done = before.done }) c.mark.ensures) c.in_ok-visit_callees-in-Some.ensures grown) c.put_origin.ensures
 
 pub visit_callees-returns-then-depth-eq0 : goal.visit_callees-returns-then-depth-eq0
 visit_callees-returns-then-depth-eq0 t c = not_deeper (lookup_of c.args.text.now) c.args.depth (search_of c.args.order.now) _ c.if-depth-eq0.true

@@ -14,4 +14,5 @@ decreases-visit_all l = 3 * l.depth + 2
 
 -- those that are left are still to be visited
 abbrev pub invariant-visit_all-loop-i : goal.invariant-visit_all-loop-i
-invariant-visit_all-loop-i l = visit_each (lookup_of l.text) (search_to (lookup_of l.text) l.depth) (search_of l.fn.order) l.places ≡ visit_each (lookup_of l.text) (search_to (lookup_of l.text) l.depth) (search_of l.order) (drop l.i l.places)
+invariant-visit_all-loop-i l = visit_each (lookup_of l.text) (search_to (lookup_of l.text) l.depth) (search_of l.fn.order) l.places
+    ≡ visit_each (lookup_of l.text) (search_to (lookup_of l.text) l.depth) (search_of l.order) (drop l.i l.places)

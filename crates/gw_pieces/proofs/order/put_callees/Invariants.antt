@@ -6,4 +6,5 @@ use Rattle.gw_pieces.proofs.order.put_callees.Given as goal
 
 -- the places of those that are left are still to come
 abbrev pub invariant-loop-i : goal.invariant-loop-i
-invariant-loop-i l = l.fn.callees.items ++ flat_map (place_called (lookup_of l.text)) (mentions l.uses) ≡ l.callees.items ++ flat_map (place_called (lookup_of l.text)) (mentions (drop l.i l.uses))
+invariant-loop-i l = l.fn.callees.items ++ flat_map (place_called (lookup_of l.text)) (mentions l.uses) ≡ l.callees.items
+    ++ flat_map (place_called (lookup_of l.text)) (mentions (drop l.i l.uses))

@@ -7,4 +7,5 @@ pub loop-place-preserved : goal.loop-place-preserved
 loop-place-preserved c =
     let l = lookup_of c.args.text.now in
     let most = length c.args.text.now.origins.now in
-    next_place l (search_to l most) _ (search_of c.loop-place.order) (search_of c.visit.new.order) c.loop-place.place most c.loop-place-test.true c.in_ok-visit.ensures c.loop-place.invariant
+    next_place l (search_to l most) _ (search_of c.loop-place.order) (search_of c.visit.new.order) c.loop-place.place most
+    c.loop-place-test.true c.in_ok-visit.ensures c.loop-place.invariant

@@ -6,4 +6,5 @@ use Rattle.gw_pieces.proofs.order.visit_each.Given as goal
 abbrev pub invariant-loop-place : goal.invariant-loop-place
 invariant-loop-place l =
     visit_each (lookup_of l.text) (search_to (lookup_of l.text) (length l.text.origins.now)) (search_of l.fn.order) (numbers_from 0 (length l.text.origins.now))
-    ≡ visit_each (lookup_of l.text) (search_to (lookup_of l.text) (length l.text.origins.now)) (search_of l.order) (numbers_from l.place (length l.text.origins.now - l.place))
+    ≡ visit_each (lookup_of l.text) (search_to (lookup_of l.text) (length l.text.origins.now)) (search_of l.order)
+    (numbers_from l.place (length l.text.origins.now - l.place))

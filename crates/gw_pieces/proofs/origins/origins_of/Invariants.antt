@@ -5,4 +5,5 @@ use Rattle.gw_pieces.proofs.origins.origins_of.Given as goal
 
 -- the origins in the statements that are left are still to come
 abbrev pub invariant-loop-number : goal.invariant-loop-number
-invariant-loop-number l = l.origins.items ++ origins_from (found_in l.known.equ_numbers) l.number (drop l.number l.model.statements.items) ≡ origins_from (found_in l.known.equ_numbers) 0 l.model.statements.items
+invariant-loop-number l = l.origins.items ++ origins_from (found_in l.known.equ_numbers) l.number (drop l.number l.model.statements.items)
+    ≡ origins_from (found_in l.known.equ_numbers) 0 l.model.statements.items

@@ -22,5 +22,6 @@ returns-clause-made c none =
 
 pub returns-clause-notes : goal.returns-clause-notes
 returns-clause-notes c =
-    let code = subst (λ (p : Plan). NotesCodeAndBlocks p c.entities_of.new.ledger c.code_by.new.ledger) c.give_entities.ensures.1 c.in_ok-procedures.ensures.notes in
+    let code = subst (λ (p : Plan). NotesCodeAndBlocks p c.entities_of.new.ledger c.code_by.new.ledger) c.give_entities.ensures.1
+    c.in_ok-procedures.ensures.notes in
     notes_are c.args.plan.now c.in_ok-entities.entities _ _ _ c.in_ok-entities.ensures.notes code

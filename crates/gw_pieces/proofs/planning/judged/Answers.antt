@@ -12,8 +12,11 @@ use Rattle.gw_pieces.proofs.planning.judged.Goals as goal
 
 pub returns-clause-few : goal.returns-clause-few
 returns-clause-few c = λ none.
-    let g = c.in_ok-order.ensures.few none in
-    ((none_noted c.args.ledger.now.least (refusals_by (declared_by c.args.known.now) c.as_slice.result.now) (sym c.in_ok-check_uses.ensures.judged ∙ g.0)).0, g.1)
+    let g = c.in_ok-order.ensures.few none in (
+      (none_noted c.args.ledger.now.least (refusals_by (declared_by c.args.known.now) c.as_slice.result.now)
+          (sym c.in_ok-check_uses.ensures.judged ∙ g.0)).0,
+      g.1,
+    )
 
 pub returns-clause-named : goal.returns-clause-named
 returns-clause-named c = λ none.
@@ -21,7 +24,8 @@ returns-clause-named c = λ none.
     let same = ap (λ xs. refusals_by (declared_by c.args.known.now) xs) c.as_slice.ensures.value in
     let are = refusals_are ss c.args.known.now c.requires in
     let g = c.in_ok-order.ensures.few none in
-    let n = none_noted c.args.ledger.now.least (refusals_by (declared_by c.args.known.now) c.as_slice.result.now) (sym c.in_ok-check_uses.ensures.judged ∙ g.0) in
+    let n = none_noted c.args.ledger.now.least (refusals_by (declared_by c.args.known.now) c.as_slice.result.now)
+    (sym c.in_ok-check_uses.ensures.judged ∙ g.0) in
     (n.0, sym (same ∙ are) ∙ n.1)
 
 pub returns-clause-notes : goal.returns-clause-notes
@@ -39,5 +43,6 @@ returns-clause-meanings c =
     let numbers : (λ name. found_in c.args.known.now.equ_numbers name) ≡ equ_number_of ss = λ j name. c.requires.places.equ_number name j in
     record {
       procedures = λ name. c.in_ok-meanings.ensures.procedures name ∙ ap (λ l. callee_of ss l name) c.deref.ensures.value;
-      equs = λ name. c.in_ok-meanings.ensures.equs name ∙ ap (λ l. equ_by (found_in c.args.known.now.equ_numbers) ss l name) c.deref.ensures.value ∙ ap (λ f. equ_by f ss order name) numbers;
+      equs = λ name. c.in_ok-meanings.ensures.equs name
+          ∙ ap (λ l. equ_by (found_in c.args.known.now.equ_numbers) ss l name) c.deref.ensures.value ∙ ap (λ f. equ_by f ss order name) numbers;
     }

@@ -8,7 +8,8 @@ use Rattle.gw_pieces.proofs.planning.order_of.Goals as goal
 pub returns-clause-order : goal.returns-clause-order
 returns-clause-order c =
     let ss = c.args.text.now.statements.items in
-    c.in_ok-order.ensures ∙ ap (λ l. order_by (lookup_by c.args.known.now ss l)) c.in_ok-origins.ensures ∙ ap order_by (lookup_is ss c.args.known.now c.requires)
+    c.in_ok-order.ensures ∙ ap (λ l. order_by (lookup_by c.args.known.now ss l)) c.in_ok-origins.ensures
+    ∙ ap order_by (lookup_is ss c.args.known.now c.requires)
 
 pub returns-clause-notes : goal.returns-clause-notes
 returns-clause-notes c =

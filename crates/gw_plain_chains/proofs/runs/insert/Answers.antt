@@ -9,10 +9,13 @@ use Rattle.gw_chains.proofs.Places.{in_order, ranks_in_time}
 use Rattle.gw_plain_chains.proofs.runs.insert.Goals as goal
 
 -- the newcomer is at its place in its run, and the order is kept
-placed : (c : goal.After-insert_reserved) → AllPairs (λ (x y : Event). x.time ≤ℤ y.time) c.insert_reserved.new.queue.items × (c.insert_reserved.new.queue.items ≡ in_time (λ (e : Event). e.time) c.args.event c.make_way.new.recent.items)
+placed : (c : goal.After-insert_reserved) → AllPairs (λ (x y : Event). x.time ≤ℤ y.time) c.insert_reserved.new.queue.items
+    × (c.insert_reserved.new.queue.items ≡ in_time (λ (e : Event). e.time) c.args.event c.make_way.new.recent.items)
 placed c =
     let recent = c.make_way.new.recent.items in
-    in_order _ _ _ _ _ c.partition_point-place.result (ranks_in_time (λ (e : Event). e.time) c.args.event) c.make_way.ensures.ordered (search rules) (λ parts. IsPartitionPoint-from_clause (λ (y : Event). int_le y.time c.args.event.time) recent c.partition_point-place.result c.partition_point-place.ensures.partitioned parts (λ a r q k. search rules)) c.insert_reserved.ensures.items
+    in_order _ _ _ _ _ c.partition_point-place.result (ranks_in_time (λ (e : Event). e.time) c.args.event) c.make_way.ensures.ordered
+    (search rules) (λ parts. IsPartitionPoint-from_clause (λ (y : Event). int_le y.time c.args.event.time) recent
+    c.partition_point-place.result c.partition_point-place.ensures.partitioned parts (λ a r q k. search rules)) c.insert_reserved.ensures.items
 
 pub returns-clause-items : goal.returns-clause-items
 returns-clause-items c =

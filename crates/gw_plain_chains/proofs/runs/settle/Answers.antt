@@ -13,10 +13,12 @@ loop-event-preserved c =
     let event = c.in-Some.event in
     let left = c.pop_front.new.self.items in
     let recent : c.loop-event.recent.items ≡ event ∷ left = c.in-Some.ensures.items in
-    let ordered : AllPairs (λ (x y : Event). x.time ≤ℤ y.time) (event ∷ left) = subst (AllPairs (λ (x y : Event). x.time ≤ℤ y.time)) recent c.loop-event.invariant.ordered in
+    let ordered : AllPairs (λ (x y : Event). x.time ≤ℤ y.time) (event ∷ left) =
+    subst (AllPairs (λ (x y : Event). x.time ≤ℤ y.time)) recent c.loop-event.invariant.ordered in
     record {
       same = ap (λ ws. settling time (unseen - passed) ws left) (c.push_back_reserved.ensures.items ∙ ap (λ ws. ws ++ event ∷ []) c.rotate_left.ensures.items)
-          ∙ settling_round time xs unseen passed event left c.count_passed-passed.ensures.bound (search rules) c.count_passed-passed.ensures.passed (λ d few. c.count_passed-passed.ensures.next d few) ordered
+          ∙ settling_round time xs unseen passed event left c.count_passed-passed.ensures.bound (search rules)
+          c.count_passed-passed.ensures.passed (λ d few. c.count_passed-passed.ensures.next d few) ordered
           ∙ ap (λ ws. settling time unseen xs ws) (sym recent)
           ∙ c.loop-event.invariant.same;
       ordered = rest_ordered time event left ordered;

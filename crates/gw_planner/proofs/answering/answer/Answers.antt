@@ -6,4 +6,5 @@ use Rattle.gw_planner.proofs.answering.answer.Goals as goal
 
 pub returns-in-Convert : goal.returns-in-Convert
 returns-in-Convert c =
-    subst (λ (q : Question). IfOk c.conversion.result (λ a. question_answering q c.args.input.now a.text.items a.status)) (sym c.in-Convert.is) c.conversion.ensures
+    subst (λ (q : Question). IfOk c.conversion.result (λ a. question_answering q c.args.input.now a.text.items a.status))
+    (sym c.in-Convert.is) c.conversion.ensures

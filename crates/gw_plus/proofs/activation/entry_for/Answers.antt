@@ -24,8 +24,10 @@ returns-in-Some-clause-once c = λ n. found_taken c.args.place c.args.turns.now.
 
 pub returns-in-None-clause-taken : goal.returns-in-None-clause-taken
 returns-in-None-clause-taken c =
-    added c.args.place c.args.turns.now.items c.push.new.self.items _ (not_there (goal.at.returns-in-None-clause-taken c).In-None) c.push.ensures.items (omega arith)
+    added c.args.place c.args.turns.now.items c.push.new.self.items _ (not_there (goal.at.returns-in-None-clause-taken c).In-None)
+    c.push.ensures.items (omega arith)
 
 pub returns-in-None-clause-once : goal.returns-in-None-clause-once
 returns-in-None-clause-once c =
-    λ n. added_taken c.args.place c.args.turns.now.items c.push.new.self.items _ n (not_there (goal.at.returns-in-None-clause-once c).In-None) c.push.ensures.items (omega arith)
+    λ n. added_taken c.args.place c.args.turns.now.items c.push.new.self.items _ n
+    (not_there (goal.at.returns-in-None-clause-once c).In-None) c.push.ensures.items (omega arith)

@@ -5,4 +5,5 @@ use Rattle.gw_points.proofs.texts.put_lines.Given as goal
 
 abbrev pub invariant-loop-i : goal.invariant-loop-i
 invariant-loop-i l =
-    l.out.items ++ text_from l.i l.number l.other (map (λ x. x.now) (drop l.i l.lines)) ≡ l.initial.out.items ++ text_from 0 l.number l.other (map (λ x. x.now) l.lines)
+    l.out.items ++ text_from l.i l.number l.other (map (λ x. x.now) (drop l.i l.lines)) ≡ l.initial.out.items
+    ++ text_from 0 l.number l.other (map (λ x. x.now) l.lines)

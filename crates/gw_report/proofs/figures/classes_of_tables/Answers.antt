@@ -10,5 +10,6 @@ loop-i-preserved c =
     let added : c.push.new.self.items ≡ c.loop-i.classes.items ++ table ∷ [] = search rules in
     let mapped = ap (λ (vs : List _). map (λ v. v.items) vs) added ∙ map-append (λ v. v.items) c.loop-i.classes.items (table ∷ []) in
     let is : table.items ≡ classes_of c.args.sim.now.state c.loop-i.i = search rules in
-    one_more (classes_of c.args.sim.now.state) 0 c.loop-i.i c.loop-i.i (map (λ v. v.items) c.loop-i.classes.items) (map (λ v. v.items) c.push.new.self.items) table.items
+    one_more (classes_of c.args.sim.now.state) 0 c.loop-i.i c.loop-i.i (map (λ v. v.items) c.loop-i.classes.items)
+    (map (λ v. v.items) c.push.new.self.items) table.items
     c.loop-i.invariant mapped is (omega arith)

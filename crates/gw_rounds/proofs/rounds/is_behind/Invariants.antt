@@ -5,4 +5,5 @@ use Rattle.gw_rounds.proofs.rounds.is_behind.Given as goal
 
 -- the block stands behind one of the callers that are left where it does behind one of all
 abbrev pub invariant-loop-caller : goal.invariant-loop-caller
-invariant-loop-caller l = list_any (λ caller. model.is_behind caller l.next) l.callers ≡ list_any (λ caller. model.is_behind caller l.next) (drop l.caller-index l.callers)
+invariant-loop-caller l = list_any (λ caller. model.is_behind caller l.next) l.callers
+    ≡ list_any (λ caller. model.is_behind caller l.next) (drop l.caller-index l.callers)

@@ -26,4 +26,5 @@ returns-in-Ok-Ends-clause-made c budget =
     let old = state_of c.args.machine.now in
     let made = rw c.in-Ok-Ends.field-0-is at c.in-Ok-Ends.ensures in
     step-ends c.args.verified.now budget old c.requires.runs c.in-Ok-Ends.end made.0
-    ∙ ap Some (sym (ap (within_budget budget) (c.end_by.ensures.0 ∙ ap (λ (s : State). record s { steps = s.steps + 1; ended = Some c.in-Ok-Ends.end }) (c.undo.ensures.0 ∙ made.1))))
+    ∙ ap Some (sym (ap (within_budget budget)
+    (c.end_by.ensures.0 ∙ ap (λ (s : State). record s { steps = s.steps + 1; ended = Some c.in-Ok-Ends.end }) (c.undo.ensures.0 ∙ made.1))))

@@ -21,10 +21,13 @@ step_past_budget-requires-clause-ready c =
     let reached = subst (λ (s : State). IsReached (record { job = j; state = s })) (below_budget j.budget (state_of m) below) i.0 in
     subst (λ (p : Parts). IsReady p m) (sym c.verified_object-verified.ensures.value) (is_ready j m reached runs (i.1 ∙ c.requires.slots))
 
-made : (c : goal.In_ok-step_past_budget) → Step c.args.spec.now (state_of c.loop-machine.machine) (within_budget c.args.spec.now.budget (state_of c.step_past_budget.new.machine))
+made : (c : goal.In_ok-step_past_budget)
+    → Step c.args.spec.now (state_of c.loop-machine.machine) (within_budget c.args.spec.now.budget (state_of c.step_past_budget.new.machine))
 made c =
     let j = c.args.spec.now in
-    subst (λ (p : Parts). step p j.budget (state_of c.loop-machine.machine) ≡ Some (within_budget j.budget (state_of c.step_past_budget.new.machine))) c.verified_object-verified.ensures.value (c.in_ok-step_past_budget.ensures.made j.budget)
+    subst (λ (p : Parts). step p j.budget (state_of c.loop-machine.machine)
+    ≡ Some (within_budget j.budget (state_of c.step_past_budget.new.machine))) c.verified_object-verified.ensures.value
+    (c.in_ok-step_past_budget.ensures.made j.budget)
 
 counted : (c : goal.In_ok-step_past_budget) → c.step_past_budget.new.machine.steps ≡ c.loop-machine.machine.steps + 1
 counted c =

@@ -13,7 +13,8 @@ weight_of_all-all-requires-clause-live c =
     subst (λ (ts : Population). live_count ts.txs ≤ 65536) (sym c.transactions.ensures.transactions) c.requires.live
 
 -- what it weighs, and what is left out, is all that was added
-weight-is : (c : goal.After-weight_owed-owed) → weight c.args.parts.now (state_of c.args.machine.now) + later_weights c.args.parts.now c.args.machine.now ≡ c.weight_of_all-all.result + c.weight_owed-owed.result
+weight-is : (c : goal.After-weight_owed-owed) → weight c.args.parts.now (state_of c.args.machine.now)
+    + later_weights c.args.parts.now c.args.machine.now ≡ c.weight_of_all-all.result + c.weight_owed-owed.result
 weight-is c =
     let p = c.args.parts.now in
     let m = c.args.machine.now in

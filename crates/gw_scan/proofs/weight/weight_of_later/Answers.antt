@@ -19,6 +19,12 @@ loop-event-init c =
     let held = IsHeld m.transactions in
     let weights = later_weight c.args.parts.now m.transactions.txs m.clock in
     record {
-      held = subst (AllByRecursion held) (sym is) (recursion_from_All held all (All-permutation held items all same (All-from_recursion held items c.future_events.ensures.held)));
-      sum = omega (arith, sum_by-IsPermutation weights items all same, ap (sum_by weights) is, ap (λ (chain : Chain Event). sum_by weights chain.items) c.future_events.ensures.events);
+      held = subst (AllByRecursion held) (sym is)
+          (recursion_from_All held all (All-permutation held items all same (All-from_recursion held items c.future_events.ensures.held)));
+      sum = omega (
+        arith,
+        sum_by-IsPermutation weights items all same,
+        ap (sum_by weights) is,
+        ap (λ (chain : Chain Event). sum_by weights chain.items) c.future_events.ensures.events,
+      );
     }

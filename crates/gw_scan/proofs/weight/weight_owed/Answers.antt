@@ -21,5 +21,12 @@ loop-number-preserved c =
     let more : sum (tabulate owed (b + 1)) ≡ sum (tabulate owed b) + owed b = ap (λ n. sum (tabulate owed n)) (add-one b) ∙ sum-more owed b in
     record {
       sum = omega (arith, c.loop-number.invariant.sum, c.owed_at.ensures.value, here, more);
-      bound = omega (arith, c.loop-number.invariant.bound, c.owed_at.ensures.value, here, few, owed_less p c.args.scheduled.now b (2 ^ 32 * greatest_weight) few);
+      bound = omega (
+        arith,
+        c.loop-number.invariant.bound,
+        c.owed_at.ensures.value,
+        here,
+        few,
+        owed_less p c.args.scheduled.now b (2 ^ 32 * greatest_weight) few,
+      );
     }

@@ -16,5 +16,6 @@ returns-clause-noted c =
     let none_found : Latest = record { version = 0; parameter = 0; like = record { version = 0; change = Same; alone = false } } in
     record {
       marks = subst (λ marks. MarksSuffice c.args.parts.now marks (rows_held c.args.rows)) (sym all) (suffice_start c.args.parts.now (rows_held c.args.rows));
-      versions = no_versions_are none_found n c.in_ok-versions.versions.items c.args.rows.blocks.items refl none (ap length none ∙ length-replicate n 0 ∙ sym c.requires);
+      versions = no_versions_are none_found n c.in_ok-versions.versions.items c.args.rows.blocks.items refl none
+          (ap length none ∙ length-replicate n 0 ∙ sym c.requires);
     }

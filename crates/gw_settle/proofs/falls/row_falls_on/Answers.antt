@@ -11,5 +11,6 @@ returns c = λ yes.
     record {
       params = same.params;
       facilities = same.facilities;
-      amounts = amounts_fall_on c.args.times c.args.row.now c.args.next.now c.args.second.now c.args.last.now c.units.result.now units (c.units_fall_on.ensures.0 yes);
+      amounts = amounts_fall_on c.args.times c.args.row.now c.args.next.now c.args.second.now c.args.last.now c.units.result.now units
+          (c.units_fall_on.ensures.0 yes);
     }

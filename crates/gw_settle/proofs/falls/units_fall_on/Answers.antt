@@ -9,7 +9,8 @@ use Rattle.gw_settle.proofs.falls.units_fall_on.Goals as goal
 pub loop-i-preserved : goal.loop-i-preserved
 loop-i-preserved c =
     let none : Amount = record { entity = 0; number = 0 } in
-    All-more (HeldFallOn c.args.times c.args.next.now c.args.second.now c.args.last.now) c.args.units.now c.loop-i.i none c.loop-i-test.true c.loop-i.invariant (c.amount_falls_on.ensures.0 c.if-not-amount_falls_on.false)
+    All-more (HeldFallOn c.args.times c.args.next.now c.args.second.now c.args.last.now) c.args.units.now c.loop-i.i none
+    c.loop-i-test.true c.loop-i.invariant (c.amount_falls_on.ensures.0 c.if-not-amount_falls_on.false)
 
 pub returns : goal.returns
 returns c =

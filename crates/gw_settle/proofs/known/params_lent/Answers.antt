@@ -8,4 +8,6 @@ use Rattle.gw_settle.specs.declared.known.KnownParam.{KnownParam}
 use Rattle.gw_settle.proofs.known.params_lent.Goals as goal
 
 pub returns : goal.returns
-returns c = map_from_collect _ c.collect.ensures.ran (YieldsList-from_map_by _ (λ (p : Param). (p.number, kind_viewed p.kind)) (λ (p : KnownParam). (p.number, kind_known p.kind)) (YieldsList-from_slice c.args.params.now cc) c.map.ensures.closure (λ x r q k. search rules))
+returns c = map_from_collect _ c.collect.ensures.ran
+    (YieldsList-from_map_by _ (λ (p : Param). (p.number, kind_viewed p.kind)) (λ (p : KnownParam). (p.number, kind_known p.kind))
+    (YieldsList-from_slice c.args.params.now cc) c.map.ensures.closure (λ x r q k. search rules))

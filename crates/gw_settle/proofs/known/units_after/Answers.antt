@@ -7,4 +7,5 @@ use Rattle.gw_settle.proofs.known.units_after.Goals as goal
 pub loop-i-preserved : goal.loop-i-preserved
 loop-i-preserved c =
     let none : Amount = record { entity = 0; number = 0 } in
-    units_more (number_after c.args.times) c.args.units.now c.args.next.now c.loop-i.all.items c.push_units.new.all.items c.loop-i.i none c.requires c.loop-i-test.true (search rules) c.loop-i.invariant
+    units_more (number_after c.args.times) c.args.units.now c.args.next.now c.loop-i.all.items c.push_units.new.all.items c.loop-i.i none
+    c.requires c.loop-i-test.true (search rules) c.loop-i.invariant

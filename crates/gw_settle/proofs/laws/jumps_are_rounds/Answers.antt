@@ -5,4 +5,5 @@ use Rattle.gw_settle.proofs.Jumping.{jumped}
 use Rattle.gw_settle.proofs.laws.jumps_are_rounds.Goals as goal
 
 pub returns : goal.returns
-returns c = λ p k n well some may. jumped p n (rounds p k) (rounds p (suc k)) (rounds p (suc (suc k))) (round p (rows_after n (rounds p k) (rounds p (suc k)))) well (k, refl) some refl refl refl may
+returns c = λ p k n well some may. jumped p n (rounds p k) (rounds p (suc k)) (rounds p (suc (suc k)))
+    (round p (rows_after n (rounds p k) (rounds p (suc k)))) well (k, refl) some refl refl refl may

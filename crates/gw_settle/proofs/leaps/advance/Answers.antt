@@ -14,7 +14,8 @@ next_round-requires-clause-sound c = reached_sound c.args.parts.now (rows_held c
 pub returns-then-not-is_due-clause-rows : goal.returns-then-not-is_due-clause-rows
 returns-then-not-is_due-clause-rows c =
     IfOk-weaker c.next_round.result _ _
-    (λ change h. advances_once c.args.parts.now (rows_held c.args.draft.now.rows) (rows_held c.next_round.new.draft.rows) change c.requires.well c.requires.reached h.rows h.is)
+    (λ change h. advances_once c.args.parts.now (rows_held c.args.draft.now.rows) (rows_held c.next_round.new.draft.rows) change
+    c.requires.well c.requires.reached h.rows h.is)
     c.next_round.ensures.round
 
 pub jump-requires-clause-rounds : goal.jump-requires-clause-rounds
@@ -25,19 +26,23 @@ next_round-requires-2-clause-sound c = reached_sound c.args.parts.now (rows_held
 
 pub returns-then-ne-clause-rows : goal.returns-then-ne-clause-rows
 returns-then-ne-clause-rows c =
-    advances_once c.args.parts.now (rows_held c.args.draft.now.rows) (rows_held c.next_round-2.new.draft.rows) c.in_ok-first.first c.requires.well c.requires.reached c.in_ok-first.ensures.round.rows c.in_ok-first.ensures.round.is
+    advances_once c.args.parts.now (rows_held c.args.draft.now.rows) (rows_held c.next_round-2.new.draft.rows) c.in_ok-first.first
+    c.requires.well c.requires.reached c.in_ok-first.ensures.round.rows c.in_ok-first.ensures.round.is
 
 pub next_round-requires-3-clause-sound : goal.next_round-requires-3-clause-sound
 next_round-requires-3-clause-sound c =
     let next = rows_held c.next_round-2.new.draft.rows in
-    reached_sound c.args.parts.now next c.requires.well (reached_next c.args.parts.now (rows_held c.args.draft.now.rows) next c.requires.reached c.in_ok-first.ensures.round.rows)
+    reached_sound c.args.parts.now next c.requires.well
+    (reached_next c.args.parts.now (rows_held c.args.draft.now.rows) next c.requires.reached c.in_ok-first.ensures.round.rows)
 
 pub returns-then-eq-clause-rows : goal.returns-then-eq-clause-rows
 returns-then-eq-clause-rows c =
     let first : c.in_ok-first.first ≡ Less = search rules in
     let second : c.in_ok-second.second ≡ More = search rules in
-    advances_more c.args.parts.now (rows_held c.args.draft.now.rows) (rows_held c.next_round-2.new.draft.rows) (rows_held c.next_round-3.new.draft.rows) c.requires.well c.requires.reached
-    c.in_ok-first.ensures.round.rows (sym c.in_ok-first.ensures.round.is ∙ first) c.in_ok-second.ensures.round.rows (sym c.in_ok-second.ensures.round.is ∙ second)
+    advances_more c.args.parts.now (rows_held c.args.draft.now.rows) (rows_held c.next_round-2.new.draft.rows)
+    (rows_held c.next_round-3.new.draft.rows) c.requires.well c.requires.reached
+    c.in_ok-first.ensures.round.rows (sym c.in_ok-first.ensures.round.is ∙ first) c.in_ok-second.ensures.round.rows
+    (sym c.in_ok-second.ensures.round.is ∙ second)
 
 pub returns-clause-rows : goal.returns-clause-rows
 returns-clause-rows c =
@@ -46,7 +51,8 @@ returns-clause-rows c =
     let new = rows_held c.jump.new.draft.rows in
     let first : c.in_ok-first.first ≡ Less = search rules in
     let ne : c.in_ok-second.second ≢ More = first_of (search rules, grind (arith, common_steps)) in
-    let jumps : HasJumped p (rows_held c.next_round-2.new.draft.rows) second new = subst (λ rows. HasJumped p rows second new) c.in_ok-next.ensures c.in_ok-jump.ensures.rows in
+    let jumps : HasJumped p (rows_held c.next_round-2.new.draft.rows) second new =
+    subst (λ rows. HasJumped p rows second new) c.in_ok-next.ensures c.in_ok-jump.ensures.rows in
     advances_less p (rows_held c.args.draft.now.rows) (rows_held c.next_round-2.new.draft.rows) second c.requires.well c.requires.reached
     c.in_ok-first.ensures.round.rows (sym c.in_ok-first.ensures.round.is ∙ first) c.in_ok-second.ensures.round.rows
     c.in_ok-second.second new (sym c.in_ok-second.ensures.round.is) ne jumps

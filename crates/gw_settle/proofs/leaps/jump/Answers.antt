@@ -10,5 +10,6 @@ jump_over-requires-clause-rounds c = subst (AreRounds c.args.parts.now c.args.ne
 
 pub returns-clause-rows : goal.returns-clause-rows
 returns-clause-rows c =
-    subst (λ (d : Draft). HasJumped c.args.parts.now (rows_held c.args.next.now) (rows_held c.args.draft.now.rows) (rows_held d.rows)) (sym c.loop-times.invariant)
+    subst (λ (d : Draft). HasJumped c.args.parts.now (rows_held c.args.next.now) (rows_held c.args.draft.now.rows) (rows_held d.rows))
+    (sym c.loop-times.invariant)
     (jumps_none c.args.parts.now (rows_held c.args.next.now) (rows_held c.args.draft.now.rows) c.requires.rounds.second)

@@ -24,4 +24,5 @@ returns c = λ is.
     let here : IsReturnAt c.args.parts.now.blocks q c.args.place = search rules in
     let other : IsReturnAt c.args.parts.now.blocks q d.returned = search rules in
     let unmarked : get_or d.marks.items d.returned false ≡ false = search rules in
-    already_idle c.args.parts.now d c.args.place d.returned q c.requires.noted here other unmarked (subst (λ vs. IsOneVersion vs c.args.place d.returned) c.deref.ensures.value (c.are_of_one_version.ensures is))
+    already_idle c.args.parts.now d c.args.place d.returned q c.requires.noted here other unmarked
+    (subst (λ vs. IsOneVersion vs c.args.place d.returned) c.deref.ensures.value (c.are_of_one_version.ensures is))

@@ -23,8 +23,10 @@ loop-caller-preserved c =
     let later = drop (l.caller-index + 1) all in
     let row : IsRowSent p a.sent b c.send_row.new.like l.draft c.send_row.new.draft c.in_ok-next.next = search rules in
     let change : followed_by l.change c.in_ok-next.next ≡ c.followed_by-change.result = search rules in
-    let before = subst (λ bs. Behind p a.sent.row.now all bs a.draft.now l.draft l.change) (drop_at all l.caller-index 0 c.loop-caller-test.true) l.invariant.sent in
+    let before = subst (λ bs. Behind p a.sent.row.now all bs a.draft.now l.draft l.change)
+    (drop_at all l.caller-index 0 c.loop-caller-test.true) l.invariant.sent in
     record {
-      sent = subst (Behind p a.sent.row.now all later a.draft.now c.send_row.new.draft) change (behind_more p a.sent.row.now all later b a.draft.now l.draft c.send_row.new.draft l.change c.in_ok-next.next before row.at row.marks);
+      sent = subst (Behind p a.sent.row.now all later a.draft.now c.send_row.new.draft) change
+          (behind_more p a.sent.row.now all later b a.draft.now l.draft c.send_row.new.draft l.change c.in_ok-next.next before row.at row.marks);
       shared = row.versions;
     }

@@ -31,10 +31,12 @@ returns-clause-versions c =
     let shared : Sets itself a.place a.sent.version c.note.new.versions.items c.share_version-itself.new.versions.items = search rules in
     let within : a.place < length versions = omega (arith, c.requires.place, c.requires.versions.length) in
     let read : c.index-version.result.now ≡ get_or versions a.place c.index-version.result.now = search rules in
-    let version : c.like_of.result.version ≢ 0 → c.like_of.result.version ≡ get_or versions a.place 0 = λ has. c.like_of.ensures.version has ∙ read ∙ read_or versions a.place c.index-version.result.now 0 within in
+    let version : c.like_of.result.version ≢ 0 → c.like_of.result.version ≡ get_or versions a.place 0 =
+    λ has. c.like_of.ensures.version has ∙ read ∙ read_or versions a.place c.index-version.result.now 0 within in
     let makes : c.like_of.result.version ≢ 0 → MakesOf a.sent (row_in rows a.place) c.like_of.result = search rules in
     let same : itself ≡ true → row_in c.send_at.new.rows.items a.place ≡ Some state = search rules in
-    sharing_first a.sent.parameter state a.sent.version a.draft.now.newest a.like.now c.like_of.result versions c.note.new.versions.items c.share_version-itself.new.versions.items rows c.send_at.new.rows.items a.place c.in_ok-change.change itself
+    sharing_first a.sent.parameter state a.sent.version a.draft.now.newest a.like.now c.like_of.result versions c.note.new.versions.items
+    c.share_version-itself.new.versions.items rows c.send_at.new.rows.items a.place c.in_ok-change.change itself
     within change new without shared same (λ has. (version has, makes has)) c.requires.versions
 
 pub returns-clause-sent : goal.returns-clause-sent

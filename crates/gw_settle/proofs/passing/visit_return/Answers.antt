@@ -7,4 +7,5 @@ use Rattle.gw_settle.proofs.passing.visit_return.Goals as goal
 pub visit_passing-requires-clause-sends : goal.visit_passing-requires-clause-sends
 visit_passing-requires-clause-sends c =
     let a = c.args in
-    subst (SendsBehind a.parts.now a.number (blocks.TransferByParameter a.parameter) a.row.now) (sym c.callers-callers.ensures) (return_is a.parts.now a.number a.parameter a.row.now)
+    subst (SendsBehind a.parts.now a.number (blocks.TransferByParameter a.parameter) a.row.now) (sym c.callers-callers.ensures)
+    (return_is a.parts.now a.number a.parameter a.row.now)

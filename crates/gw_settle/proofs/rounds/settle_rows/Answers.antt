@@ -18,7 +18,12 @@ less-smaller c =
 pub less-preserved : goal.less-preserved
 less-preserved c =
     let h : DraftAdvances c.args.parts.now c.less.draft c.advance.new.draft Less = search rules in
-    record { rows = advance_reached c.args.parts.now _ _ c.less.invariant.rows h; absent = omega (arith, h.1.absent, c.less.invariant.absent); noted = search rules }
+    record {
+      rows = advance_reached c.args.parts.now _ _ c.less.invariant.rows h;
+      absent =
+          omega (arith, h.1.absent, c.less.invariant.absent);
+      noted = search rules;
+    }
 
 pub more-smaller : goal.more-smaller
 more-smaller c =

@@ -13,7 +13,8 @@ returns-then-bound-numbers-clause-others c =
     (split_at c.args.bound c.loop-i.i c.args.numbers.now c.loop-i.invariant over).others
 
 pub loop-i-preserved : goal.loop-i-preserved
-loop-i-preserved c = rw add-one (under_more c.args.bound c.loop-i.i c.args.numbers.now 0 c.loop-i-test.true (omega (arith, c.if-bound-numbers.false)) c.loop-i.invariant)
+loop-i-preserved c = rw add-one
+    (under_more c.args.bound c.loop-i.i c.args.numbers.now 0 c.loop-i-test.true (omega (arith, c.if-bound-numbers.false)) c.loop-i.invariant)
 
 pub returns-clause-below : goal.returns-clause-below
 returns-clause-below c =

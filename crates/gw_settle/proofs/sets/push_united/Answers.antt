@@ -21,7 +21,9 @@ loop-number-preserved c =
     let later = drop (c.loop-number.number-index + 1) c.args.others.now in
     let left : c.in_ok-left.left.now ≡ filter (λ n. not (nat_lt n m)) c.loop-number.rest.now = search rules in
     let above : c.above-rest.result.now ≡ filter (λ n. nat_lt m n) c.in_ok-left.left.now = search rules in
-    let rest : c.above-rest.result.now ≡ filter (λ n. nat_lt m n) c.loop-number.rest.now = above ∙ ap (λ ns. filter (λ n. nat_lt m n) ns) left ∙ above_of_left m c.loop-number.rest.now in
+    let rest : c.above-rest.result.now ≡ filter (λ n. nat_lt m n) c.loop-number.rest.now = above
+    ∙ ap (λ ns. filter (λ n. nat_lt m n) ns) left ∙ above_of_left m c.loop-number.rest.now in
     let all : c.push.new.self.items ≡ (c.loop-number.all.items ++ filter (λ n. nat_lt n m) c.loop-number.rest.now) ++ m ∷ [] = search rules in
-    let before = subst (United c.args.all.now.items c.args.numbers.now c.args.others.now c.loop-number.all.items c.loop-number.rest.now) (drop_at c.args.others.now c.loop-number.number-index 0 c.loop-number-test.true) c.loop-number.invariant in
+    let before = subst (United c.args.all.now.items c.args.numbers.now c.args.others.now c.loop-number.all.items c.loop-number.rest.now)
+    (drop_at c.args.others.now c.loop-number.number-index 0 c.loop-number-test.true) c.loop-number.invariant in
     rw (all, rest) (united_more c.args.all.now.items c.args.numbers.now c.args.others.now c.loop-number.all.items c.loop-number.rest.now m later before)

@@ -13,4 +13,6 @@ returns c =
     let ns = c.args.numbers.now in
     let ms = c.args.others.now in
     let all : c.push_united.new.all.items ≡ take k ns ++ union_of (take (length ns - k) (drop k ns)) (take (length ms - k) (drop k ms)) = search rules in
-    rw (whole k ns, whole k ms) at all ∙ common_first k ns ms c.requires.numbers c.requires.others c.count_common-common.ensures.same c.count_common-common.ensures.numbers c.count_common-common.ensures.others
+    rw (whole k ns, whole k ms) at all
+    ∙ common_first k ns ms c.requires.numbers c.requires.others c.count_common-common.ensures.same
+    c.count_common-common.ensures.numbers c.count_common-common.ensures.others

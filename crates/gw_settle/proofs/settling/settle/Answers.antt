@@ -32,30 +32,41 @@ returns-in-Ok-with_table-clause-accepted c =
 pub returns-in-Ok-with_table-clause-code : goal.returns-in-Ok-with_table-clause-code
 returns-in-Ok-with_table-clause-code c =
     let same : c.in-Ok-with_table.settled ≡ with_written c.args.object c.in-Ok.table = search rules in
-    IfOk-weaker c.checked.result _ _ (λ o h. subst PlusPasses (sym (h.0 ∙ same)) (plus_same c.args.object c.in-Ok.table.returns c.in-Ok.table.states c.in-Ok.table.chain_states c.requires.code)) c.checked.ensures.passed
+    IfOk-weaker c.checked.result _ _
+    (λ o h. subst PlusPasses (sym (h.0 ∙ same))
+    (plus_same c.args.object c.in-Ok.table.returns c.in-Ok.table.states c.in-Ok.table.chain_states c.requires.code)) c.checked.ensures.passed
 
 pub returns-in-Ok-with_table-clause-table : goal.returns-in-Ok-with_table-clause-table
 returns-in-Ok-with_table-clause-table c =
     let same : c.in-Ok-with_table.settled ≡ with_written c.args.object c.in-Ok.table = search rules in
-    IfOk-weaker c.checked.result _ _ (λ o h. subst (HasAssemblersTable c.args.object) (sym (h.0 ∙ same)) (table_settled c.args.object c.in-Ok.table (well c.args.object c.requires.kinds (search rules)) (search rules))) c.checked.ensures.passed
+    IfOk-weaker c.checked.result _ _
+    (λ o h. subst (HasAssemblersTable c.args.object) (sym (h.0 ∙ same))
+    (table_settled c.args.object c.in-Ok.table (well c.args.object c.requires.kinds (search rules)) (search rules))) c.checked.ensures.passed
 
 pub returns-in-Ok-with_table-clause-greatest : goal.returns-in-Ok-with_table-clause-greatest
 returns-in-Ok-with_table-clause-greatest c =
     let same : c.in-Ok-with_table.settled ≡ with_written c.args.object c.in-Ok.table = search rules in
-    IfOk-weaker c.checked.result _ _ (λ o h. subst (IsGreatest c.args.object) (sym (h.0 ∙ same)) (greatest_settled c.args.object c.in-Ok.table (well c.args.object c.requires.kinds (search rules)) (search rules))) c.checked.ensures.passed
+    IfOk-weaker c.checked.result _ _
+    (λ o h. subst (IsGreatest c.args.object) (sym (h.0 ∙ same))
+    (greatest_settled c.args.object c.in-Ok.table (well c.args.object c.requires.kinds (search rules)) (search rules))) c.checked.ensures.passed
 
 pub returns-in-Ok-with_table-clause-refused : goal.returns-in-Ok-with_table-clause-refused
 returns-in-Ok-with_table-clause-refused c =
     let same : c.in-Ok-with_table.settled ≡ with_written c.args.object c.in-Ok.table = search rules in
-    IfErr-weaker c.checked.result _ _ (λ e h. refused_settled c.args.object c.in-Ok.table (well c.args.object c.requires.kinds (search rules)) (search rules) e.1 (subst (λ x. IsFlowFault x e.1) same h)) c.checked.ensures.refused
+    IfErr-weaker c.checked.result _ _
+    (λ e h. refused_settled c.args.object c.in-Ok.table (well c.args.object c.requires.kinds (search rules)) (search rules) e.1
+    (subst (λ x. IsFlowFault x e.1) same h)) c.checked.ensures.refused
 
 pub returns-in-Ok-with_table-clause-complete : goal.returns-in-Ok-with_table-clause-complete
 returns-in-Ok-with_table-clause-complete c =
     let same : c.in-Ok-with_table.settled ≡ with_written c.args.object c.in-Ok.table = search rules in
-    IfErr-weaker c.checked.result _ _ (λ e h. complete_settled c.args.object c.in-Ok.table (well c.args.object c.requires.kinds (search rules)) (search rules) e.1 (subst (λ x. IsFlowFault x e.1) same h)) c.checked.ensures.refused
+    IfErr-weaker c.checked.result _ _
+    (λ e h. complete_settled c.args.object c.in-Ok.table (well c.args.object c.requires.kinds (search rules)) (search rules) e.1
+    (subst (λ x. IsFlowFault x e.1) same h)) c.checked.ensures.refused
 
 pub returns-in-Err-with_table-clause-refused : goal.returns-in-Err-with_table-clause-refused
 returns-in-Err-with_table-clause-refused c = inl (inr (too_large_written c.args.object c.in-Ok.table _ (search rules) c.in-Err-with_table.ensures.refused refl))
 
 pub returns-in-Err-with_table-clause-complete : goal.returns-in-Err-with_table-clause-complete
-returns-in-Err-with_table-clause-complete c = λ none q passes. inr (too_large_written c.args.object c.in-Ok.table _ (search rules) c.in-Err-with_table.ensures.refused refl)
+returns-in-Err-with_table-clause-complete c =
+    λ none q passes. inr (too_large_written c.args.object c.in-Ok.table _ (search rules) c.in-Err-with_table.ensures.refused refl)

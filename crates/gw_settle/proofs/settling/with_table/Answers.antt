@@ -10,4 +10,5 @@ restored-requires c =
     let returns : c.exchange.new.table.returns ≡ c.args.object.returns = search rules in
     let states : c.exchange.new.table.states ≡ c.args.object.states = search rules in
     let chain_states : c.exchange.new.table.chain_states ≡ c.args.object.chain_states = search rules in
-    subst HasSpelling (sym (back c.args.object c.in-Err.parts c.args.table.returns c.exchange.new.table.returns c.args.table.states c.exchange.new.table.states c.args.table.chain_states c.exchange.new.table.chain_states same returns states chain_states)) c.requires
+    subst HasSpelling (sym (back c.args.object c.in-Err.parts c.args.table.returns c.exchange.new.table.returns c.args.table.states
+    c.exchange.new.table.states c.args.table.chain_states c.exchange.new.table.chain_states same returns states chain_states)) c.requires

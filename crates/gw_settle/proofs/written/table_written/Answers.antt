@@ -20,8 +20,10 @@ returns-in_err-states-clause-stops c =
     let bs = c.args.blocks.now in
     let cs = c.args.chains.now in
     let first = c.in_ok-add_states.ensures.sets ∙ ap (λ rs. with_rows (sets_of rs) bs) c.new-returns.ensures.items in
-    let same : sets_of c.deref.result.now ≡ sets_in (rows_of bs cs) = ap sets_of c.deref.ensures.value ∙ c.in_ok-add_states-2.ensures.sets ∙ ap (λ sets. with_rows sets cs) first in
-    rw (p.1, p.2) (stops_weaker (CanBeWritten (rows_of bs cs)) (RowsFit (sets_of c.deref.result.now) bs) _ (λ can. subst (λ sets. RowsFit sets bs) (sym same) can.blocks) c.in_err-states.ensures.stops)
+    let same : sets_of c.deref.result.now ≡ sets_in (rows_of bs cs) = ap sets_of c.deref.ensures.value ∙ c.in_ok-add_states-2.ensures.sets
+    ∙ ap (λ sets. with_rows sets cs) first in
+    rw (p.1, p.2) (stops_weaker (CanBeWritten (rows_of bs cs)) (RowsFit (sets_of c.deref.result.now) bs) _
+    (λ can. subst (λ sets. RowsFit sets bs) (sym same) can.blocks) c.in_err-states.ensures.stops)
 
 pub returns-in_err-chain_states-clause-stops : goal.returns-in_err-chain_states-clause-stops
 returns-in_err-chain_states-clause-stops c =
@@ -29,5 +31,7 @@ returns-in_err-chain_states-clause-stops c =
     let bs = c.args.blocks.now in
     let cs = c.args.chains.now in
     let first = c.in_ok-add_states.ensures.sets ∙ ap (λ rs. with_rows (sets_of rs) bs) c.new-returns.ensures.items in
-    let same : sets_of c.deref-2.result.now ≡ sets_in (rows_of bs cs) = ap sets_of c.deref-2.ensures.value ∙ c.in_ok-add_states-2.ensures.sets ∙ ap (λ sets. with_rows sets cs) first in
-    rw (p.1, p.2) (stops_weaker (CanBeWritten (rows_of bs cs)) (RowsFit (sets_of c.deref-2.result.now) cs) _ (λ can. subst (λ sets. RowsFit sets cs) (sym same) can.chains) c.in_err-chain_states.ensures.stops)
+    let same : sets_of c.deref-2.result.now ≡ sets_in (rows_of bs cs) = ap sets_of c.deref-2.ensures.value
+    ∙ c.in_ok-add_states-2.ensures.sets ∙ ap (λ sets. with_rows sets cs) first in
+    rw (p.1, p.2) (stops_weaker (CanBeWritten (rows_of bs cs)) (RowsFit (sets_of c.deref-2.result.now) cs) _
+    (λ can. subst (λ sets. RowsFit sets cs) (sym same) can.chains) c.in_err-chain_states.ensures.stops)

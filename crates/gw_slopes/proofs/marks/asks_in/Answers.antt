@@ -11,4 +11,5 @@ returns-in-TransferByParameter c =
     let callers : List ℕ = return_blocks (kind_of (row_meaning c.args.parts.now.returns c.args.row.now) held) in
     let read : c.blocks_read-callers.result.now ≡ callers = rw (c.blocks_read-callers.ensures, c.as_slice.ensures) refl in
     let is = sym (any_behind c.args.marks.now c.args.number held c.args.parameter callers) in
-    rw (c.in-TransferByParameter.is) (c.is_one_marked_behind.ensures ∙ ap (λ (cs : List ℕ). list_any (λ caller. get_or c.args.marks.now caller false) cs) read ∙ is)
+    rw (c.in-TransferByParameter.is)
+    (c.is_one_marked_behind.ensures ∙ ap (λ (cs : List ℕ). list_any (λ caller. get_or c.args.marks.now caller false) cs) read ∙ is)

@@ -14,4 +14,5 @@ returns-then-not-mark_round c =
     let before = c.loop.invariant in
     let same = round.same none in
     are_marks p c.args.parameter c.mark_round.new.marks (round.many ∙ before.0) (round.sound before.1)
-    (λ i within. subst (λ (ms : List Bool). is_due p c.args.parameter ms i ≡ false) (sym same) (round.none none i (subst (λ (ms : List Bool). i < length ms) same within)))
+    (λ i within. subst (λ (ms : List Bool). is_due p c.args.parameter ms i ≡ false) (sym same)
+    (round.none none i (subst (λ (ms : List Bool). i < length ms) same within)))

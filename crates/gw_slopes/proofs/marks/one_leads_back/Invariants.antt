@@ -5,4 +5,5 @@ use Rattle.gw_slopes.proofs.marks.one_leads_back.Given as goal
 
 -- of the exits that are left one does where one of all does
 abbrev pub invariant-loop-exit : goal.invariant-loop-exit
-invariant-loop-exit l = list_any (leads_back l.marks l.number l.block l.parameter) l.exits ≡ list_any (leads_back l.marks l.number l.block l.parameter) (drop l.exit-index l.exits)
+invariant-loop-exit l = list_any (leads_back l.marks l.number l.block l.parameter) l.exits
+    ≡ list_any (leads_back l.marks l.number l.block l.parameter) (drop l.exit-index l.exits)

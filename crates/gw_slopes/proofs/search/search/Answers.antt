@@ -34,5 +34,7 @@ loop-parameter-preserved c =
     let before = c.loop-parameter.invariant in
     let o = c.loop-parameter.parts in
     let q = c.loop-parameter.parameter in
-    let step = c.in_ok-helps.ensures in
-    (alike_both p o c.helps.new.parts before.0 step.alike, none_more p q before.1 (λ tried. same_helps p o before.0 q (step.none c.if-branch.false (sym (same_tried p o before.0 q) ∙ tried))))
+    let step = c.in_ok-helps.ensures in (
+      alike_both p o c.helps.new.parts before.0 step.alike,
+      none_more p q before.1 (λ tried. same_helps p o before.0 q (step.none c.if-branch.false (sym (same_tried p o before.0 q) ∙ tried))),
+    )

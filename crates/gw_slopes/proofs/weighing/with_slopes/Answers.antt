@@ -34,7 +34,8 @@ returns-in-Ok-true-clause-tried c =
     let x = c.search.new.parts in
     let aside : c.put_aside-own.new.parts ≡ without_slopes o = c.put_aside-own.ensures.parts ∙ ap without_slopes c.into_parts-parts.ensures.value in
     let has : HasSlopes o x = has_of_emptied o x (subst (λ (y : Parts). HasSlopes y x) aside (c.in-Ok-true.ensures.has c.in-Ok-true.field-0-test)) in
-    IfOk-weaker c.finished.result _ _ (λ made h. inr (subst (λ (y : Parts). HasSlopes o y × HasLeastWeights y) (sym h.0) (has, has.least h.1))) c.finished.ensures.made
+    IfOk-weaker c.finished.result _ _
+    (λ made h. inr (subst (λ (y : Parts). HasSlopes o y × HasLeastWeights y) (sym h.0) (has, has.least h.1))) c.finished.ensures.made
 
 pub returns-in-Ok-true-clause-refused : goal.returns-in-Ok-true-clause-refused
 returns-in-Ok-true-clause-refused c =

@@ -1,5 +1,11 @@
-use Rattle.gw_stops.proofs.Activations.{stuck_activations_have_no_outcome, empty_stack_stops, full_stack_stops, full_stack_has_no_room, jump_out_stops, absent_procedure_stops, call_of_absent_stops, get_of_absent_stops, set_of_absent_stops, unset_value_stops}
-use Rattle.gw_stops.proofs.Stops.{release_of_anothers_stops, seize_of_ones_own_stops, terminate_while_owning_stops, assemble_while_owning_stops, leave_of_too_much_stops, depart_of_too_much_stops, enter_above_capacity_stops, missing_block_stops, move_to_no_target_stops, choice_of_no_target_stops, copies_to_no_target_stop, members_to_no_target_stop, operand_without_value_stops, loop_by_unset_stops, return_by_unset_stops, interval_without_value_stops, arrival_without_value_has_no_start}
+use Rattle.gw_stops.proofs.Activations.{stuck_activations_have_no_outcome, empty_stack_stops, full_stack_stops, full_stack_has_no_room}
+use Rattle.gw_stops.proofs.Activations.{jump_out_stops, absent_procedure_stops, call_of_absent_stops, get_of_absent_stops, set_of_absent_stops}
+use Rattle.gw_stops.proofs.Activations.{unset_value_stops}
+use Rattle.gw_stops.proofs.Stops.{release_of_anothers_stops, seize_of_ones_own_stops, terminate_while_owning_stops, assemble_while_owning_stops}
+use Rattle.gw_stops.proofs.Stops.{leave_of_too_much_stops, depart_of_too_much_stops, enter_above_capacity_stops, missing_block_stops}
+use Rattle.gw_stops.proofs.Stops.{move_to_no_target_stops, choice_of_no_target_stops, copies_to_no_target_stop, members_to_no_target_stop}
+use Rattle.gw_stops.proofs.Stops.{operand_without_value_stops, loop_by_unset_stops, return_by_unset_stops, interval_without_value_stops}
+use Rattle.gw_stops.proofs.Stops.{arrival_without_value_has_no_start}
 use Rattle.gw_stops.proofs.laws.error_stops_are_stuck.Goals as goal
 
 pub returns-clause-release : goal.returns-clause-release

@@ -10,8 +10,10 @@ loop-sim-preserved c =
     let s = c.loop-sim.sim.state in
     let counted : c.step_on.new.sim.state.steps ≡ s.steps + 1 = steps_are_counted c.loop-sim.sim.job s c.step_on.new.sim.state c.in_ok-step_on.ensures.made in
     let alone : Alone j s.steps s = subst (λ (i : Job). Alone i s.steps s) c.loop-sim.invariant.0 c.goes_on.ensures.reached.alone in
-    let on = c.loop-sim-test.ensures.on refl in
-    (c.in_ok-step_on.ensures.job ∙ c.loop-sim.invariant.0, before_more j c.args.left s.steps c.step_on.new.sim.state.steps s c.loop-sim.invariant.1 alone on.1 counted)
+    let on = c.loop-sim-test.ensures.on refl in (
+      c.in_ok-step_on.ensures.job ∙ c.loop-sim.invariant.0,
+      before_more j c.args.left s.steps c.step_on.new.sim.state.steps s c.loop-sim.invariant.1 alone on.1 counted,
+    )
 
 pub loop-sim-smaller : goal.loop-sim-smaller
 loop-sim-smaller c =

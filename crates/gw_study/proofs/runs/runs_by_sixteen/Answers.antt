@@ -17,5 +17,7 @@ returns g c =
     let behind : (middle + length others ≡ c.args.end) × AreRunsFrom j from middle others =
     subst (λ r. AreRunsOf c.args.setup.now middle c.args.end r) c.in_ok-more.was c.join-left.ensures.second in
     let added : c.append.new.self.items ≡ runs ++ others = search rules in
-    let longer : length c.append.new.self.items ≡ length runs + length others = ap length added ∙ length-append runs others in
-    (omega (arith, longer, own.0, behind.0), subst (λ xs. AreRunsFrom j from first xs) (sym added) (following j from first middle runs others own.1 own.0 behind.1))
+    let longer : length c.append.new.self.items ≡ length runs + length others = ap length added ∙ length-append runs others in (
+      omega (arith, longer, own.0, behind.0),
+      subst (λ xs. AreRunsFrom j from first xs) (sym added) (following j from first middle runs others own.1 own.0 behind.1),
+    )

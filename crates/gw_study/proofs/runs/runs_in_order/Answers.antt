@@ -15,5 +15,8 @@ loop-made-preserved g c =
     let behind = c.in_ok-more.ensures in
     let there : first + length old ≡ start = omega (arith, c.loop-made.invariant.1) in
     let added : c.append.new.self.items ≡ old ++ others = search rules in
-    let longer : length c.append.new.self.items ≡ length old + length others = ap length added ∙ length-append old others in
-    (omega arith, omega (arith, longer, c.loop-made.invariant.1, behind.0), subst (λ xs. AreRunsFrom j from first xs) (sym added) (following j from first start old others c.loop-made.invariant.2 there behind.1))
+    let longer : length c.append.new.self.items ≡ length old + length others = ap length added ∙ length-append old others in (
+      omega arith,
+      omega (arith, longer, c.loop-made.invariant.1, behind.0),
+      subst (λ xs. AreRunsFrom j from first xs) (sym added) (following j from first start old others c.loop-made.invariant.2 there behind.1),
+    )

@@ -6,4 +6,5 @@ use Rattle.gw_study.proofs.streams.drawn_from.Given as goal
 abbrev pub invariant-loop-i : goal.invariant-loop-i
 invariant-loop-i l =
     (l.drawn ≤ 2 ^ 127 - 1)
-    × (min (2 ^ 127 - 1) (l.drawn + drawn_from l.entities l.stream l.steps l.values l.i (drop l.i l.blocks)) ≡ min (2 ^ 127 - 1) (drawn_from l.entities l.stream l.steps l.values 0 l.blocks))
+    × (min (2 ^ 127 - 1) (l.drawn + drawn_from l.entities l.stream l.steps l.values l.i (drop l.i l.blocks))
+    ≡ min (2 ^ 127 - 1) (drawn_from l.entities l.stream l.steps l.values 0 l.blocks))

@@ -15,7 +15,8 @@ loop-i-preserved c =
     let i = c.loop-i.i in
     let figure = c.index-figures-i.result in
     let below : i < length figures = omega arith in
-    let grown = piece_more (IsRowOf (rows c.args.rows.now) c.args.all) i (labels (take i figures)) (label_of figure) c.args.out.now.items c.loop-i.out.items c.put_row.new.out.items
+    let grown = piece_more (IsRowOf (rows c.args.rows.now) c.args.all) i (labels (take i figures)) (label_of figure) c.args.out.now.items
+    c.loop-i.out.items c.put_row.new.out.items
     c.loop-i.invariant (so_many i figures below) c.in_ok-put_row.ensures in
     let same : labels (take (i + 1) figures) ≡ labels (take i figures) ++ label_of figure ∷ [] =
     map_more label_of figures i figure below ∙ ap (λ (f : Figure). labels (take i figures) ++ label_of f ∷ []) (sym c.index-figures-i.is) in

@@ -29,8 +29,11 @@ set-requires-clause-number c =
 no_none : (c : goal.After-set) → c.self.inside.unset.last ≡ 0 → (key : ℕ) → get c.set.new.beside key ≡ None
 no_none c zero_is key = absurd (omega (arith, zero_is, some_last c))
 
-txs_are : (c : goal.After-set) → by_number (λ place kept. live_as c.set.new.beside kept) (c.self.inside.created + 1) 0 c.self.inside.slots.slots ≡ put None c.args.self.now.txs c.args.tx.number (Some (live_as c.set.new.beside c.index.result.now.1))
-txs_are c = changed-txs c.self.inside c.self.invariant.0 _ c.self.view_is c.args.tx c.requires.held c.index.result.now c.index.ensures c.set.new.beside c.self.invariant.3 c.set.ensures.others (no_none c)
+txs_are : (c : goal.After-set)
+    → by_number (λ place kept. live_as c.set.new.beside kept) (c.self.inside.created + 1) 0 c.self.inside.slots.slots
+    ≡ put None c.args.self.now.txs c.args.tx.number (Some (live_as c.set.new.beside c.index.result.now.1))
+txs_are c = changed-txs c.self.inside c.self.invariant.0 _ c.self.view_is c.args.tx c.requires.held c.index.result.now c.index.ensures
+    c.set.new.beside c.self.invariant.3 c.set.ensures.others (no_none c)
 
 there : (c : goal.After-set) → at None c.args.self.now.txs c.args.tx.number ≡ Some (live_as c.self.inside.beside c.index.result.now.1)
 there c = value_of c.self.inside c.self.invariant.0 _ c.self.view_is c.args.tx c.requires.held _ c.index.ensures
@@ -40,20 +43,26 @@ invariant_of-self c = (
   c.self.invariant.0,
   c.self.invariant.1,
   subst (AreCounted c.self.inside.here) (sym (txs_are c))
-      (counted-kept c.self.inside.here _ (counted_of c.self.inside c.self.invariant.0 _ c.self.view_is c.self.invariant.2) c.args.tx.number (live_as c.self.inside.beside c.index.result.now.1) (live_as c.set.new.beside c.index.result.now.1) (there c) refl),
-  own-changed c.self.inside.unset.last c.self.inside.beside c.set.new.beside c.self.inside.slots.slots c.index.result.now.1.key c.self.invariant.3 (some_last c) (omega (arith, c.self.invariant.3.room, c.set.ensures.len, c.set.ensures.capacity)) c.set.ensures.last c.set.ensures.there c.set.ensures.others,
+      (counted-kept c.self.inside.here _ (counted_of c.self.inside c.self.invariant.0 _ c.self.view_is c.self.invariant.2) c.args.tx.number
+      (live_as c.self.inside.beside c.index.result.now.1) (live_as c.set.new.beside c.index.result.now.1) (there c) refl),
+  own-changed c.self.inside.unset.last c.self.inside.beside c.set.new.beside c.self.inside.slots.slots c.index.result.now.1.key
+      c.self.invariant.3 (some_last c) (omega (arith, c.self.invariant.3.room, c.set.ensures.len, c.set.ensures.capacity))
+      c.set.ensures.last c.set.ensures.there c.set.ensures.others,
   c.self.invariant.4,
 )
 
 pub returns-clause-txs : goal.returns-clause-txs
 returns-clause-txs c =
     txs_are c
-    ∙ ap (λ (ps : List (Option ℤ)). put None c.args.self.now.txs c.args.tx.number (Some (record { attributes = c.index.result.now.1.attributes; parameters = ps; chain = c.index.result.now.1.chain })))
-    (c.set.ensures.values ∙ ap (λ (v : ℤ). put None (row_at c.self.inside.beside c.index.result.now.1.key).values c.args.number (Some v)) (to_z-of_z w64 c.args.value c.ranges.value))
+    ∙ ap (λ (ps : List (Option ℤ)). put None c.args.self.now.txs c.args.tx.number
+    (Some (record { attributes = c.index.result.now.1.attributes; parameters = ps; chain = c.index.result.now.1.chain })))
+    (c.set.ensures.values ∙ ap (λ (v : ℤ). put None (row_at c.self.inside.beside c.index.result.now.1.key).values c.args.number (Some v))
+    (to_z-of_z w64 c.args.value c.ranges.value))
     ∙ ap (put None c.args.self.now.txs c.args.tx.number) (sym (ap (option_map (with_parameter c.args.number c.args.value)) (there c)))
 
 pub returns-clause-rest : goal.returns-clause-rest
-returns-clause-rest c = changed-rest c.self.inside c.self.invariant.0 _ c.self.view_is c.args.tx c.requires.held c.index.result.now c.index.ensures c.set.new.beside c.self.invariant.3 c.set.ensures.others (no_none c) c.set.ensures.len c.set.ensures.capacity
+returns-clause-rest c = changed-rest c.self.inside c.self.invariant.0 _ c.self.view_is c.args.tx c.requires.held c.index.result.now
+    c.index.ensures c.set.new.beside c.self.invariant.3 c.set.ensures.others (no_none c) c.set.ensures.len c.set.ensures.capacity
 
 pub returns-clause-handles : goal.returns-clause-handles
 returns-clause-handles c = λ tx holds. ap (λ places. at None places tx.number) (returns-clause-rest c).places ∙ holds

@@ -8,7 +8,8 @@ use Rattle.gw_transactions.specs.Slots.{live_as, space_in, AreCounted}
 use Rattle.gw_transactions.proofs.Here.{counted-few, counted-insert}
 use Rattle.gw_num.specs.Table.{at, put}
 use Rattle.gw_num.proofs.Tables.{at-put, at-put_past}
-use Rattle.gw_transactions.proofs.Populations.{length-txs, next_is, table-next, numbered-next_of, live_count-insert, counted_of, sound_of, own-next, inserted-txs, sound}
+use Rattle.gw_transactions.proofs.Populations.{length-txs, next_is, table-next, numbered-next_of, live_count-insert, counted_of, sound_of, own-next}
+use Rattle.gw_transactions.proofs.Populations.{inserted-txs, sound}
 use Rattle.gw_transactions.proofs.Room.{room-slots, room-beside, room-falls}
 use Rattle.gw_transactions.proofs.Transactions.insert_with.Goals as goal
 
@@ -22,7 +23,12 @@ keep-key-requires-clause-room c =
     λ some.
     let last = c.requires.parameters ∙ sym (ap (λ (p : Population). p.last) c.self.view_is) in
     let room = ap (λ (p : Population). p.room) c.self.view_is in
-    omega (arith, room, c.requires.room, room-beside c.self.inside.unset.last (space_in c.self.inside.slots) (space_in c.self.inside.beside) (omega (arith, some, last)))
+    omega (
+      arith,
+      room,
+      c.requires.room,
+      room-beside c.self.inside.unset.last (space_in c.self.inside.slots) (space_in c.self.inside.beside) (omega (arith, some, last)),
+    )
 
 pub keep-key-requires-clause-none : goal.keep-key-requires-clause-none
 keep-key-requires-clause-none c =
@@ -53,7 +59,9 @@ made c = ap (λ (n : Numbered). made_with n.values c.args.transaction) c.keep-ke
 
 pub returns-clause-txs : goal.returns-clause-txs
 returns-clause-txs c =
-    inserted-txs c.self.inside c.self.invariant.0 _ c.self.view_is c.self.invariant.3 c.keep-key.new.beside c.keep-key.result c.keep-key.ensures.vacant c.keep-key.ensures.others (bare c) c.insert_reserved-place.new.self c.insert_reserved-place.result (kept c) c.requires.few c.insert_reserved-place.ensures.was_vacant c.insert_reserved-place.ensures.updates
+    inserted-txs c.self.inside c.self.invariant.0 _ c.self.view_is c.self.invariant.3 c.keep-key.new.beside c.keep-key.result
+    c.keep-key.ensures.vacant c.keep-key.ensures.others (bare c) c.insert_reserved-place.new.self c.insert_reserved-place.result
+    (kept c) c.requires.few c.insert_reserved-place.ensures.was_vacant c.insert_reserved-place.ensures.updates
     ∙ ap (λ t. put None c.args.self.now.txs (length c.args.self.now.txs) (Some t)) (made c)
 
 beside_fits : (c : goal.After-add) → slab_len c.keep-key.new.beside ≤ c.keep-key.new.beside.capacity
@@ -70,11 +78,17 @@ pub invariant_of-self : goal.invariant_of-self
 invariant_of-self c =
     let room = ap (λ (p : Population). p.room) c.self.view_is in
     let slots = room-slots c.self.inside.unset.last (space_in c.self.inside.slots) (space_in c.self.inside.beside) in (
-      numbered-next_of c.self.inside c.self.invariant.0 _ c.self.view_is c.insert_reserved-place.new.self c.insert_reserved-place.result (kept c) c.requires.few c.insert_reserved-place.ensures.updates,
+      numbered-next_of c.self.inside c.self.invariant.0 _ c.self.view_is c.insert_reserved-place.new.self c.insert_reserved-place.result
+          (kept c) c.requires.few c.insert_reserved-place.ensures.updates,
       omega (arith, room, slots, c.requires.room, c.insert_reserved-place.ensures.len, c.insert_reserved-place.ensures.capacity),
       subst (AreCounted c.add.new.self) (sym (returns-clause-txs c))
-          (counted-insert c.self.inside.here c.args.self.now.txs (counted_of c.self.inside c.self.invariant.0 _ c.self.view_is c.self.invariant.2) c.add.new.self (made_with c.args.parameters.values c.args.transaction) c.add.ensures),
-      own-next c.self.inside.unset.last c.self.inside.beside c.keep-key.new.beside c.self.inside.slots.slots c.self.invariant.3 c.keep-key.result c.keep-key.ensures.vacant c.keep-key.ensures.others (bare c) c.insert_reserved-place.new.self.slots c.insert_reserved-place.result (c.self.inside.created + 1) (kept c) refl c.insert_reserved-place.ensures.updates.others c.insert_reserved-place.ensures.updates.changed (beside_fits c)
+          (counted-insert c.self.inside.here c.args.self.now.txs
+          (counted_of c.self.inside c.self.invariant.0 _ c.self.view_is c.self.invariant.2) c.add.new.self
+          (made_with c.args.parameters.values c.args.transaction) c.add.ensures),
+      own-next c.self.inside.unset.last c.self.inside.beside c.keep-key.new.beside c.self.inside.slots.slots c.self.invariant.3
+          c.keep-key.result c.keep-key.ensures.vacant c.keep-key.ensures.others (bare c) c.insert_reserved-place.new.self.slots
+          c.insert_reserved-place.result (c.self.inside.created + 1) (kept c) refl c.insert_reserved-place.ensures.updates.others
+          c.insert_reserved-place.ensures.updates.changed (beside_fits c)
           (ap (λ (n : Numbered). n.last) c.keep-key.ensures.row ∙ last_is c) (λ some. c.keep-key.ensures.there (omega (arith, last_is c, some))),
       c.self.invariant.4,
     )
@@ -85,7 +99,8 @@ returns-clause-room c =
     omega (
       arith,
       room,
-      room-falls c.self.inside.unset.last (space_in c.self.inside.slots) (space_in c.self.inside.beside) (space_in c.insert_reserved-place.new.self) (space_in c.keep-key.new.beside)
+      room-falls c.self.inside.unset.last (space_in c.self.inside.slots) (space_in c.self.inside.beside)
+          (space_in c.insert_reserved-place.new.self) (space_in c.keep-key.new.beside)
           (omega (arith, c.insert_reserved-place.ensures.len, c.insert_reserved-place.ensures.capacity))
           (λ some. omega (arith, c.keep-key.ensures.len (omega (arith, last_is c, some)), c.keep-key.ensures.capacity)),
     )
@@ -95,15 +110,22 @@ returns-clause-number c = next_is c.self.inside c.self.invariant.0 _ c.self.view
 
 pub returns-clause-places : goal.returns-clause-places
 returns-clause-places c =
-    table-next c.self.inside c.self.invariant.0 _ c.self.view_is (λ place kept. place) (λ p. p.places) refl c.insert_reserved-place.new.self c.insert_reserved-place.result (kept c) c.requires.few c.insert_reserved-place.ensures.was_vacant c.insert_reserved-place.ensures.updates
+    table-next c.self.inside c.self.invariant.0 _ c.self.view_is (λ place kept. place) (λ p. p.places) refl
+    c.insert_reserved-place.new.self c.insert_reserved-place.result (kept c) c.requires.few c.insert_reserved-place.ensures.was_vacant
+    c.insert_reserved-place.ensures.updates
 
 pub returns-clause-made : goal.returns-clause-made
 returns-clause-made c =
-    omega (arith, next_is c.self.inside c.self.invariant.0 _ c.self.view_is, length-txs c.insert_reserved-place.new.self c.keep-key.new.beside (c.self.inside.created + 1 + 1) c.self.inside.unset.last (invariant_of-self c).0)
+    omega (
+      arith,
+      next_is c.self.inside c.self.invariant.0 _ c.self.view_is,
+      length-txs c.insert_reserved-place.new.self c.keep-key.new.beside (c.self.inside.created + 1 + 1) c.self.inside.unset.last (invariant_of-self c).0,
+    )
 
 pub returns-clause-live : goal.returns-clause-live
 returns-clause-live c =
-    ap live_count (returns-clause-txs c) ∙ live_count-insert c.self.inside c.self.invariant.0 _ c.self.view_is (made_with c.args.parameters.values c.args.transaction)
+    ap live_count (returns-clause-txs c)
+    ∙ live_count-insert c.self.inside c.self.invariant.0 _ c.self.view_is (made_with c.args.parameters.values c.args.transaction)
 
 pub returns-clause-held : goal.returns-clause-held
 returns-clause-held c =
@@ -122,4 +144,5 @@ pub returns-clause-was_sound : goal.returns-clause-was_sound
 returns-clause-was_sound c = sound_of c.self.inside c.self.invariant.0 _ c.self.view_is
 
 pub returns-clause-sound : goal.returns-clause-sound
-returns-clause-sound c = sound c.insert_reserved-place.new.self c.keep-key.new.beside (c.self.inside.created + 1) c.self.inside.unset.last (invariant_of-self c).0
+returns-clause-sound c =
+    sound c.insert_reserved-place.new.self c.keep-key.new.beside (c.self.inside.created + 1) c.self.inside.unset.last (invariant_of-self c).0

@@ -11,8 +11,11 @@ pub returns-clause-listed : goal.returns-clause-listed
 returns-clause-listed c =
     let next = c.self.inside.created + 1 in
     subst (λ (p : Population). IsPermutation (listed_transactions p.txs) (map (listed_in c.self.inside.beside) c.iter.result)) c.self.view_is
-    (subst (λ entries. IsPermutation (listed_transactions (population_of c.self.inside.slots c.self.inside.beside next c.self.inside.unset.last).txs) (map (listed_in c.self.inside.beside) entries)) (sym c.iter.ensures.rest)
+    (subst (λ entries. IsPermutation
+    (listed_transactions (population_of c.self.inside.slots c.self.inside.beside next c.self.inside.unset.last).txs)
+    (map (listed_in c.self.inside.beside) entries)) (sym c.iter.ensures.rest)
     (listed_slots c.self.inside.beside next 0 0 c.self.inside.slots.slots c.self.invariant.0))
 
 pub returns-clause-len : goal.returns-clause-len
-returns-clause-len c = length-map c.iter.result (listed_in c.self.inside.beside) ∙ c.iter.ensures.len ∙ live_is c.self.inside c.self.invariant.0 _ c.self.view_is
+returns-clause-len c = length-map c.iter.result (listed_in c.self.inside.beside) ∙ c.iter.ensures.len
+    ∙ live_is c.self.inside c.self.invariant.0 _ c.self.view_is

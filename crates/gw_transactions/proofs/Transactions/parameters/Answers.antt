@@ -18,4 +18,5 @@ returns c =
     (c.row.ensures.last (c.self.invariant.3.alike c.args.tx.place c.index.result.now c.index.ensures) ∙ ap (λ (p : Population). p.last) c.self.view_is)
     ∙ ap (λ values. record { values = values; last = c.args.self.now.last })
     (c.row.ensures.values
-    ∙ sym (ap (λ t. option_map_or (λ (t : LiveTransaction). t.parameters) t no_parameters) (value_of c.self.inside c.self.invariant.0 _ c.self.view_is c.args.tx c.requires _ c.index.ensures)))
+    ∙ sym (ap (λ t. option_map_or (λ (t : LiveTransaction). t.parameters) t no_parameters)
+    (value_of c.self.inside c.self.invariant.0 _ c.self.view_is c.args.tx c.requires _ c.index.ensures)))

@@ -8,14 +8,16 @@ use Rattle.gw_transactions.proofs.Room.{room_of, room-slots, room-beside}
 use Rattle.gw_transactions.proofs.Transactions.reserve.Goals as goal
 
 -- a call for room beside that fails tells that there was too little
-lacks_beside : {T E : Type 0} (last slots len capacity more : ℕ) (r : Result T E) → len ≤ capacity → OnErr r (0 < last) → OnErr r (capacity < len + more) → OnErr r (room_of last slots (capacity - len) < more)
+lacks_beside : {T E : Type 0} (last slots len capacity more : ℕ) (r : Result T E) → len ≤ capacity → OnErr r (0 < last)
+    → OnErr r (capacity < len + more) → OnErr r (room_of last slots (capacity - len) < more)
 lacks_beside last slots len capacity more (Ok x) fits some lacks = tt
 lacks_beside last slots len capacity more (Err e) fits some lacks = omega (arith, fits, lacks, room-beside last slots (capacity - len) some)
 
 pub returns-clause-refused : goal.returns-clause-refused
 returns-clause-refused c =
     subst (λ (p : Population). OnErr c.reserve_beside.result (p.room < c.args.more)) c.self.view_is
-    (lacks_beside c.self.inside.unset.last (space_in c.self.inside.slots) (slab_len c.self.inside.beside) c.self.inside.beside.capacity c.args.more c.reserve_beside.result c.self.invariant.3.room c.reserve_beside.ensures.refused c.reserve_beside.ensures.lacked)
+    (lacks_beside c.self.inside.unset.last (space_in c.self.inside.slots) (slab_len c.self.inside.beside) c.self.inside.beside.capacity
+    c.args.more c.reserve_beside.result c.self.invariant.3.room c.reserve_beside.ensures.refused c.reserve_beside.ensures.lacked)
 
 pub returns-clause-sound : goal.returns-clause-sound
 returns-clause-sound c =

@@ -13,7 +13,8 @@ index-requires c = let slot = held c.self.inside c.self.invariant.0 _ c.self.vie
 
 pub take-requires : goal.take-requires
 take-requires c =
-    counted-one c.self.inside.here _ (counted_of c.self.inside c.self.invariant.0 _ c.self.view_is c.self.invariant.2) c.args.tx.number (live_as c.self.inside.beside c.index.result.now.1)
+    counted-one c.self.inside.here _ (counted_of c.self.inside c.self.invariant.0 _ c.self.view_is c.self.invariant.2) c.args.tx.number
+    (live_as c.self.inside.beside c.index.result.now.1)
     (value_of c.self.inside c.self.invariant.0 _ c.self.view_is c.args.tx c.requires.held _ c.index.ensures)
 
 pub add-requires-clause-few : goal.add-requires-clause-few
@@ -31,18 +32,22 @@ kept c = record { attributes = c.args.transaction; key = c.index_mut.result.now.
 
 pub returns-clause-txs : goal.returns-clause-txs
 returns-clause-txs c =
-    written-by c.self.inside c.self.invariant.0 _ c.self.view_is c.args.tx c.requires.held c.index_mut.result.now c.index_mut.ensures.value (kept c) (with_attributes c.args.transaction) refl
+    written-by c.self.inside c.self.invariant.0 _ c.self.view_is c.args.tx c.requires.held c.index_mut.result.now c.index_mut.ensures.value
+    (kept c) (with_attributes c.args.transaction) refl
 
 pub invariant_of-self : goal.invariant_of-self
 invariant_of-self c =
     let counted = counted_of c.self.inside c.self.invariant.0 _ c.self.view_is c.self.invariant.2 in
     let there = value_of c.self.inside c.self.invariant.0 _ c.self.view_is c.args.tx c.requires.held _ c.index.ensures in
-    let now = counted-set c.self.inside.here _ counted c.take.new.self c.add.new.self c.args.tx.number (live_as c.self.inside.beside c.index.result.now.1) (live_as c.self.inside.beside (kept c)) there c.take.ensures c.add.ensures in
-    let fields = written-fields c.self.inside c.self.invariant.0 _ c.self.view_is c.args.tx c.requires.held c.index_mut.result.now c.index_mut.ensures.value (kept c) c.add.new.self c.self.invariant.1 now c.self.invariant.3 refl in
+    let now = counted-set c.self.inside.here _ counted c.take.new.self c.add.new.self c.args.tx.number
+    (live_as c.self.inside.beside c.index.result.now.1) (live_as c.self.inside.beside (kept c)) there c.take.ensures c.add.ensures in
+    let fields = written-fields c.self.inside c.self.invariant.0 _ c.self.view_is c.args.tx c.requires.held c.index_mut.result.now
+    c.index_mut.ensures.value (kept c) c.add.new.self c.self.invariant.1 now c.self.invariant.3 refl in
     (fields.0, fields.1, fields.2, fields.3, c.self.invariant.4)
 
 pub returns-clause-rest : goal.returns-clause-rest
-returns-clause-rest c = written-rest c.self.inside c.self.invariant.0 _ c.self.view_is c.args.tx c.requires.held c.index_mut.result.now c.index_mut.ensures.value (kept c)
+returns-clause-rest c = written-rest c.self.inside c.self.invariant.0 _ c.self.view_is c.args.tx c.requires.held c.index_mut.result.now
+    c.index_mut.ensures.value (kept c)
 
 pub returns-clause-handles : goal.returns-clause-handles
 returns-clause-handles c = λ tx holds. ap (λ places. at None places tx.number) (returns-clause-rest c).places ∙ holds

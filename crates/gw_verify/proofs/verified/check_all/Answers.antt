@@ -12,7 +12,8 @@ returns-in_err-check_through_flow-clause-found c =
 
 pub returns-clause-found : goal.returns-clause-found
 returns-clause-found c =
-    found_last c.check_weights.result (checks c.args.object.now) (weight_checks c.args.object.now) c.in_ok-check_through_flow.ensures.found c.check_weights.ensures
+    found_last c.check_weights.result (checks c.args.object.now) (weight_checks c.args.object.now) c.in_ok-check_through_flow.ensures.found
+    c.check_weights.ensures
 
 pub returns-clause-first : goal.returns-clause-first
 returns-clause-first c = λ fault broken.

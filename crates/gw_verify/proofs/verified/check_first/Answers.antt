@@ -10,4 +10,5 @@ returns-in_err-check_kinds-clause-found c =
     rw (p.1, p.2) (stops_first (kinds_checks c.args.object.now) (plus_checks c.args.object.now) _ c.in_err-check_kinds.ensures)
 
 pub returns-clause-found : goal.returns-clause-found
-returns-clause-found c = joined c.check_plus.result (kinds_checks c.args.object.now) (plus_checks c.args.object.now) c.in_ok-check_kinds.ensures c.check_plus.ensures
+returns-clause-found c =
+    joined c.check_plus.result (kinds_checks c.args.object.now) (plus_checks c.args.object.now) c.in_ok-check_kinds.ensures c.check_plus.ensures

@@ -10,9 +10,11 @@ pub returns-in_err-check_first-clause-found : goal.returns-in_err-check_first-cl
 unfolding checks
 returns-in_err-check_first-clause-found c =
     let p = err_from_is_err_and c.from_residual.result c.from_residual.ensures.1 in
-    rw (p.1, p.2) (inl (stops_first (first_checks c.args.object.now) (flow_checks c.args.object.now (own_table c.args.object.now)) _ c.in_err-check_first.ensures.found))
+    rw (p.1, p.2) (inl (stops_first (first_checks c.args.object.now) (flow_checks c.args.object.now (own_table c.args.object.now)) _
+    c.in_err-check_first.ensures.found))
 
 pub returns-clause-found : goal.returns-clause-found
 unfolding checks
 returns-clause-found c =
-    found_later c.check_flow.result (first_checks c.args.object.now) (flow_checks c.args.object.now (own_table c.args.object.now)) c.in_ok-check_first.ensures.found c.check_flow.ensures
+    found_later c.check_flow.result (first_checks c.args.object.now) (flow_checks c.args.object.now (own_table c.args.object.now))
+    c.in_ok-check_first.ensures.found c.check_flow.ensures

@@ -5,4 +5,5 @@ use Rattle.gw_weighing.proofs.rules.add_rows.Given as goal
 
 -- with the rules of the rows that are left they are those of all
 abbrev pub invariant-loop-i : goal.invariant-loop-i
-invariant-loop-i l = l.rules.items ++ from_place (λ r (row : ReturnRow). rules_of_row l.layout r row.blocks) l.i (drop l.i l.parts.returns) ≡ l.fn.rules.items ++ rules_of_rows l.layout l.parts
+invariant-loop-i l = l.rules.items ++ from_place (λ r (row : ReturnRow). rules_of_row l.layout r row.blocks) l.i (drop l.i l.parts.returns)
+    ≡ l.fn.rules.items ++ rules_of_rows l.layout l.parts

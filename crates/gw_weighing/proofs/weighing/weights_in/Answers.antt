@@ -11,4 +11,6 @@ weights_of-requires c = rw c.parts.ensures.value (is_counted c.args.object.now c
 pub returns : goal.returns
 returns c =
     let o = c.args.object.now in
-    IfOk-weaker c.weights_of.result _ _ (λ w h. subst (λ (p : Parts). AreLeast p w.blocks.items w.chains.items) c.parts.ensures.value (h (rw c.parts.ensures.value (o.weights, o.chain_weights, c.parts.ensures.limits)))) c.weights_of.ensures
+    IfOk-weaker c.weights_of.result _ _
+    (λ w h. subst (λ (p : Parts). AreLeast p w.blocks.items w.chains.items) c.parts.ensures.value
+    (h (rw c.parts.ensures.value (o.weights, o.chain_weights, c.parts.ensures.limits)))) c.weights_of.ensures

@@ -12,6 +12,9 @@ returns c =
     let see = row_meaning c.args.parts.now.returns in
     let states = c.as_slice.result.now in
     let item = c.in_ok-get.ensures.lookup in
-    let stands : slice_get states (c.args.number - 1) ≡ Some c.in_ok-get.field-0.now = slice_get_read states (length states) (c.args.number - 1) c.in_ok-get.field-0.now refl (ltb-true _ _ (sym item.0)) item.1 in
-    seen_behind see c.as_ref.result ∙ ap (option_map see) (c.as_ref.ensures.value ∙ sym (ap option_flatten stands) ∙ ap (λ rows. option_flatten (slice_get rows (c.args.number - 1))) c.as_slice.ensures)
+    let stands : slice_get states (c.args.number - 1) ≡ Some c.in_ok-get.field-0.now =
+    slice_get_read states (length states) (c.args.number - 1) c.in_ok-get.field-0.now refl (ltb-true _ _ (sym item.0)) item.1 in
+    seen_behind see c.as_ref.result
+    ∙ ap (option_map see) (c.as_ref.ensures.value ∙ sym (ap option_flatten stands)
+    ∙ ap (λ rows. option_flatten (slice_get rows (c.args.number - 1))) c.as_slice.ensures)
     ∙ sym (row_seen see c.args.parts.now.states c.args.number c.if-number-eq0.false)

@@ -6,7 +6,8 @@ use Rattle.planner.proofs.program.ask_study.Goals as goal
 
 pub returns-clause-written : goal.returns-clause-written
 returns-clause-written g c =
-    delivers _ (studying_ends c.args.is_pair (study_view c.args.study.now)) _ _ _ _ c.read_and_study.result c.read_and_study.ensures.answer c.deliver.ensures.bytes
+    delivers _ (studying_ends c.args.is_pair (study_view c.args.study.now)) _ _ _ _ c.read_and_study.result c.read_and_study.ensures.answer
+    c.deliver.ensures.bytes
 
 pub returns-clause-calls : goal.returns-clause-calls
 returns-clause-calls g c =

@@ -18,8 +18,11 @@ overflow_sub-self c = omega (arith, c.remove_member.ensures.total, c.self.invari
 
 pub invariant_of-self : goal.invariant_of-self
 invariant_of-self c =
-    let asked = rw (← c.self.view_is) at c.requires in
-    (counted_fewer (λ (m : Member). neg_ℤ m.priority) _ _ _ _ _ _ c.self.invariant.0 asked c.remove_member.ensures.members c.remove_member.ensures.buckets c.remove_member.ensures.total, inr c.walk_to_begin-self-inside.ensures)
+    let asked = rw (← c.self.view_is) at c.requires in (
+      counted_fewer (λ (m : Member). neg_ℤ m.priority) _ _ _ _ _ _ c.self.invariant.0 asked c.remove_member.ensures.members
+          c.remove_member.ensures.buckets c.remove_member.ensures.total,
+      inr c.walk_to_begin-self-inside.ensures,
+    )
 
 pub returns-clause-len : goal.returns-clause-len
 returns-clause-len c =
@@ -28,4 +31,6 @@ returns-clause-len c =
     omega (arith, ap length c.remove_member.ensures.members, fewer, ap (λ (v : Walked). length v.members) c.self.view_is)
 
 pub returns-clause-place : goal.returns-clause-place
-returns-clause-place c = place_start c.remove_member.new.row.items c.walk_to_begin-self-inside.result.spot c.walk_to_begin-self-inside.ensures.0 c.walk_to_begin-self-inside.ensures.1
+returns-clause-place c =
+    place_start c.remove_member.new.row.items c.walk_to_begin-self-inside.result.spot c.walk_to_begin-self-inside.ensures.0
+    c.walk_to_begin-self-inside.ensures.1

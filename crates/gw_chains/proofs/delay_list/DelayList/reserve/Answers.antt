@@ -7,4 +7,5 @@ use Rattle.gw_chains.proofs.delay_list.DelayList.reserve.Goals as goal
 
 pub invariant_of-self : goal.invariant_of-self
 invariant_of-self c =
-    in_slots (λ S bs. AreCounted (λ (m : Member). neg_ℤ m.priority) S bs c.self.inside.count × IsWalkOrBegins S bs c.self.inside.walk) _ _ _ _ c.reserve.ensures.slots c.reserve.ensures.items c.self.invariant
+    in_slots (λ S bs. AreCounted (λ (m : Member). neg_ℤ m.priority) S bs c.self.inside.count × IsWalkOrBegins S bs c.self.inside.walk) _ _
+    _ _ c.reserve.ensures.slots c.reserve.ensures.items c.self.invariant

@@ -19,7 +19,8 @@ none_due now rank (x ∷ xs) is later =
     let fails : int_le x.time now ≡ false = subst (λ r. int_le r now ≡ false) same later in
     rw fails (λ i. None)
 
-one_due : (now rank : ℤ) (xs : List Event) (e : Event) → Some rank ≡ option_map (λ (e : Event). e.time) (first xs) → int_le rank now ≡ true → Some e ≡ first xs → Some e.tx ≡ first_due now xs
+one_due : (now rank : ℤ) (xs : List Event) (e : Event) → Some rank ≡ option_map (λ (e : Event). e.time) (first xs) → int_le rank now ≡ true
+    → Some e ≡ first xs → Some e.tx ≡ first_due now xs
 one_due now rank [] e is due none = absurd cc
 one_due now rank (x ∷ xs) e is due there =
     let same : rank ≡ x.time = cc in
@@ -27,7 +28,8 @@ one_due now rank (x ∷ xs) e is due there =
     rw passes (ap (option_map (λ (e : Event). e.tx)) there)
 
 -- the rank of the first bucket is the time of the first event
-ranked : (S : ℕ → Option (Link Event)) (bs : List Bucket) (b : Bucket) (v : Bucketed) → AreBuckets (λ (e : Event). e.time) S bs → members_of S bs ≡ v.items → Some b ≡ first bs → Some b.rank ≡ option_map (λ (e : Event). e.time) (first v.items)
+ranked : (S : ℕ → Option (Link Event)) (bs : List Bucket) (b : Bucket) (v : Bucketed) → AreBuckets (λ (e : Event). e.time) S bs
+    → members_of S bs ≡ v.items → Some b ≡ first bs → Some b.rank ≡ option_map (λ (e : Event). e.time) (first v.items)
 ranked S bs b v are shown there =
     ap (option_map (λ (b : Bucket). b.rank)) there
     ∙ first_rank_of (λ (e : Event). e.time) S bs are
@@ -38,7 +40,8 @@ returns-then-not-is_due-clause-first c =
     let shown = ap (λ (v : Bucketed). v.items) c.self.view_is in
     let later : int_le c.in_ok-bucket.bucket.rank c.args.time ≡ false = search rules in
     none_due c.args.time c.in_ok-bucket.bucket.rank c.args.self.now.items
-    (ranked (get c.self.inside.links) (all_of c.self.inside.chunks.items) c.in_ok-bucket.bucket c.args.self.now c.self.invariant.0.0 shown c.in_ok-bucket.ensures)
+    (ranked (get c.self.inside.links) (all_of c.self.inside.chunks.items) c.in_ok-bucket.bucket c.args.self.now c.self.invariant.0.0 shown
+    c.in_ok-bucket.ensures)
     later
 
 pub returns-clause-first : goal.returns-clause-first
@@ -46,6 +49,7 @@ returns-clause-first c =
     let shown = ap (λ (v : Bucketed). v.items) c.self.view_is in
     let due_now : int_le c.in_ok-bucket.bucket.rank c.args.time ≡ true = search rules in
     one_due c.args.time c.in_ok-bucket.bucket.rank c.args.self.now.items c.pop_from-event.result
-    (ranked (get c.self.inside.links) (all_of c.self.inside.chunks.items) c.in_ok-bucket.bucket c.args.self.now c.self.invariant.0.0 shown c.in_ok-bucket.ensures)
+    (ranked (get c.self.inside.links) (all_of c.self.inside.chunks.items) c.in_ok-bucket.bucket c.args.self.now c.self.invariant.0.0 shown
+    c.in_ok-bucket.ensures)
     due_now
     (c.pop_from-event.ensures.first.0 ∙ ap first shown)

@@ -15,7 +15,8 @@ invariant_of-self c = (
 pub invariant_of-self-2 : goal.invariant_of-self-2
 invariant_of-self-2 c =
     let chunks = c.reserve.ensures.items in (
-      in_slots (λ S bs. AreCounted (λ (e : Event). e.time) S bs c.self.inside.count) _ _ _ _ c.reserve_links.ensures.slots (ap all_of chunks) c.self.invariant.0,
+      in_slots (λ S bs. AreCounted (λ (e : Event). e.time) S bs c.self.inside.count) _ _ _ _ c.reserve_links.ensures.slots
+          (ap all_of chunks) c.self.invariant.0,
       rw chunks c.self.invariant.1,
       c.reserve.ensures.spare,
     )

@@ -6,7 +6,8 @@ use Rattle.gw_chains.proofs.event_buckets.EventBuckets.schedule.Goals as goal
 
 pub invariant_of-self : goal.invariant_of-self
 invariant_of-self c = (
-  counted_more (λ (e : Event). e.time) _ _ _ _ _ _ _ c.self.invariant.0 c.insert_member.ensures.gain (omega (arith, ap (λ (v : Bucketed). room_behind 0 v) c.self.view_is, c.requires)),
+  counted_more (λ (e : Event). e.time) _ _ _ _ _ _ _ c.self.invariant.0 c.insert_member.ensures.gain
+      (omega (arith, ap (λ (v : Bucketed). room_behind 0 v) c.self.view_is, c.requires)),
   c.insert_member.ensures.chunks,
   c.insert_member.ensures.spare,
 )

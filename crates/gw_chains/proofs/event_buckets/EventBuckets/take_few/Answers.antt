@@ -13,7 +13,8 @@ use Rattle.gw_chains.proofs.event_buckets.EventBuckets.take_few.Goals.{After-pus
 none : (c : After-push_back_reserved) → c.self.inside.chunks.items ≡ []
 none c =
     no_chunk c.self.inside.chunks.items c.self.invariant.1
-    (no_bucket (λ (e : Event). e.time) (get c.self.inside.links) (all_of c.self.inside.chunks.items) c.self.inside.count c.self.invariant.0 (ap (λ (b : Bucketed). b.items) c.self.view_is ∙ c.requires.none))
+    (no_bucket (λ (e : Event). e.time) (get c.self.inside.links) (all_of c.self.inside.chunks.items) c.self.inside.count c.self.invariant.0
+    (ap (λ (b : Bucketed). b.items) c.self.view_is ∙ c.requires.none))
 
 -- those of the one chunk are all
 all : (c : After-push_back_reserved) → all_of c.push_back_reserved.new.self.items ≡ c.fill.new.row.items
@@ -22,7 +23,8 @@ all c = one_chunk _ _ c.fill.new.row (none c) c.push_back_reserved.ensures.items
 pub fill-requires-clause-buckets : goal.fill-requires-clause-buckets
 fill-requires-clause-buckets c =
     subst (AreBuckets (λ (e : Event). e.time) (get c.self.inside.links))
-    (no_bucket (λ (e : Event). e.time) (get c.self.inside.links) (all_of c.self.inside.chunks.items) c.self.inside.count c.self.invariant.0 (ap (λ (b : Bucketed). b.items) c.self.view_is ∙ c.requires.none))
+    (no_bucket (λ (e : Event). e.time) (get c.self.inside.links) (all_of c.self.inside.chunks.items) c.self.inside.count c.self.invariant.0
+    (ap (λ (b : Bucketed). b.items) c.self.view_is ∙ c.requires.none))
     c.self.invariant.0.0
 
 pub invariant_of-self : goal.invariant_of-self

@@ -11,6 +11,7 @@ returns c =
     let few = c.self.inside.few.items in
     let many = c.self.inside.many.items in
     let turned : IsPermutation (reverse few) few = subst (IsPermutation (reverse few)) (reverse-reverse few) (IsPermutation-reverse (reverse few)) in
-    let yields = ap (λ (es : List Event). es ++ c.iter-2.result) (c.iter.ensures.rest ∙ c.deref.ensures.value) ∙ ap (λ (es : List Event). few ++ es) c.iter-2.ensures in
+    let yields = ap (λ (es : List Event). es ++ c.iter-2.result) (c.iter.ensures.rest ∙ c.deref.ensures.value)
+    ∙ ap (λ (es : List Event). few ++ es) c.iter-2.ensures in
     rw (← ap (λ (v : Chain Event). v.items) c.self.view_is)
     (subst (IsPermutation (reverse few ++ many)) (sym yields) (IsPermutation-append_left many (reverse few) few turned))

@@ -16,4 +16,5 @@ invariant_of-self-2 c = (
 pub returns-clause-room : goal.returns-clause-room
 returns-clause-room c =
     rw (← ap (λ (v : Chain Event). v.room) c.self.view_is)
-    (room_left c.self.inside.many (vec_capacity c.self.inside.few) (vec_capacity c.pop_due-2.new.few) (length c.self.inside.few.items) (length c.pop_due-2.new.few.items) c.pop_due-2.ensures.len c.pop_due-2.ensures.capacity)
+    (room_left c.self.inside.many (vec_capacity c.self.inside.few) (vec_capacity c.pop_due-2.new.few) (length c.self.inside.few.items)
+    (length c.pop_due-2.new.few.items) c.pop_due-2.ensures.len c.pop_due-2.ensures.capacity)

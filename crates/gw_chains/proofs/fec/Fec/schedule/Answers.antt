@@ -13,9 +13,11 @@ pub invariant_of-self : goal.invariant_of-self
 invariant_of-self c =
     let few = c.self.inside.few.items in
     let many = c.self.inside.many.items in
-    let space = some_space (length many) (vec_capacity c.self.inside.few) (length few) (subst (λ n. 0 < n) c.space_beside.ensures c.if-space_beside-gt0.true) in (
+    let space = some_space (length many) (vec_capacity c.self.inside.few) (length few)
+    (subst (λ n. 0 < n) c.space_beside.ensures c.if-space_beside-gt0.true) in (
       omega (arith, space.1, c.insert_in_time.ensures.len),
-      subst (AllPairs NotLater) (sym c.insert_in_time.ensures.items) (placed_in_order NotLater _ _ (reverse few) (ranks_in_time (λ (e : Event). e.time) _) c.self.invariant.1),
+      subst (AllPairs NotLater) (sym c.insert_in_time.ensures.items)
+          (placed_in_order NotLater _ _ (reverse few) (ranks_in_time (λ (e : Event). e.time) _) c.self.invariant.1),
       λ some. nil_from_length many space.0,
       c.self.invariant.3,
     )
@@ -27,7 +29,8 @@ invariant_of-self-else-space_beside-gt0 c =
     let none : c.schedule_in_buckets.new.few.items ≡ [] = c.schedule_in_buckets.ensures.few in
     let room : 0 < room_for_events (vec_capacity c.self.inside.few) (length few) many =
     subst (λ n. 0 < n) (sym (ap (λ (v : Chain Event). v.room) c.self.view_is)) c.requires in
-    let within = within_memory many (vec_capacity c.self.inside.few) (length few) room (subst (λ n. n ≤ 0) c.space_beside.ensures c.if-space_beside-gt0.false) in
+    let within = within_memory many (vec_capacity c.self.inside.few) (length few) room
+    (subst (λ n. n ≤ 0) c.space_beside.ensures c.if-space_beside-gt0.false) in
     let more : length c.schedule_in_buckets.new.many.items ≡ length (reverse few ++ many.items) + 1 =
     ap length c.schedule_in_buckets.ensures.items ∙ length-placed _ _ (reverse few ++ many.items) in (
       omega (arith, ap length none),
@@ -39,4 +42,6 @@ invariant_of-self-else-space_beside-gt0 c =
 pub returns-then-space_beside-gt0-clause-room : goal.returns-then-space_beside-gt0-clause-room
 returns-then-space_beside-gt0-clause-room c =
     rw (← ap (λ (v : Chain Event). v.room) c.self.view_is)
-    (room_joined c.self.inside.many (vec_capacity c.self.inside.few) (vec_capacity c.insert_in_time.new.few) (length c.self.inside.few.items) (length c.insert_in_time.new.few.items) c.insert_in_time.ensures.len (omega (arith, c.insert_in_time.ensures.capacity)))
+    (room_joined c.self.inside.many (vec_capacity c.self.inside.few) (vec_capacity c.insert_in_time.new.few)
+    (length c.self.inside.few.items) (length c.insert_in_time.new.few.items) c.insert_in_time.ensures.len
+    (omega (arith, c.insert_in_time.ensures.capacity)))

@@ -11,7 +11,11 @@ pub returns-clause-value : goal.returns-clause-value
 returns-clause-value c =
     let s = list_of _ _ _ _ (ap (λ w. w.lists) c.self.view_is) c.requires c.index.ensures in
     rw (← c.self.view_is)
-    (c.current.ensures.value ∙ ap (λ ms. option_map (λ (m : Member). m.tx) (slice_get ms c.index.result.now.place)) (sym (here (λ (l : Walked). l.members) [] _ _ _ s)) ∙ ap (λ n. option_map (λ (m : Member). m.tx) (slice_get (at [] (map (λ (l : Walked). l.members) c.self.inside.delay_lists.items) c.args.entity) n)) (sym (here (λ (l : Walked). l.place) 0 _ _ _ s)))
+    (c.current.ensures.value
+    ∙ ap (λ ms. option_map (λ (m : Member). m.tx) (slice_get ms c.index.result.now.place))
+    (sym (here (λ (l : Walked). l.members) [] _ _ _ s))
+    ∙ ap (λ n. option_map (λ (m : Member). m.tx)
+    (slice_get (at [] (map (λ (l : Walked). l.members) c.self.inside.delay_lists.items) c.args.entity) n)) (sym (here (λ (l : Walked). l.place) 0 _ _ _ s)))
 
 pub returns-clause-there : goal.returns-clause-there
 returns-clause-there c =

@@ -16,7 +16,12 @@ loop-e-init c = record {
 
 pub reserve_at-requires : goal.reserve_at-requires
 reserve_at-requires c =
-    omega (arith, ap length c.loop-e.invariant.lists, many (λ (l : Walked). l.members) [] c.self.inside.delay_lists.items, ap (λ w. length w.lists) c.self.view_is)
+    omega (
+      arith,
+      ap length c.loop-e.invariant.lists,
+      many (λ (l : Walked). l.members) [] c.self.inside.delay_lists.items,
+      ap (λ w. length w.lists) c.self.view_is,
+    )
 
 pub returns-in_err-reserve_at-clause-lists : goal.returns-in_err-reserve_at-clause-lists
 returns-in_err-reserve_at-clause-lists c = c.reserve_at.ensures.lists ∙ c.loop-e.invariant.lists
@@ -32,8 +37,10 @@ returns-in_err-reserve_at-clause-retry_kept c = omega (arith, c.loop-e.invariant
 
 pub returns-in_err-reserve_at-clause-refused : goal.returns-in_err-reserve_at-clause-refused
 returns-in_err-reserve_at-clause-refused c =
-    let within : c.loop-e.e < length c.args.self.now.lists = omega (arith, many (λ (l : Walked). l.members) [] c.self.inside.delay_lists.items, ap (λ w. length w.lists) c.self.view_is) in
-    err_with c.from_residual-in_err-reserve_at.result (inr (c.loop-e.e, within, omega (arith, c.loop-e.invariant.kept c.loop-e.e, c.in_err-reserve_at.ensures.refused)))
+    let within : c.loop-e.e < length c.args.self.now.lists =
+    omega (arith, many (λ (l : Walked). l.members) [] c.self.inside.delay_lists.items, ap (λ w. length w.lists) c.self.view_is) in
+    err_with c.from_residual-in_err-reserve_at.result
+    (inr (c.loop-e.e, within, omega (arith, c.loop-e.invariant.kept c.loop-e.e, c.in_err-reserve_at.ensures.refused)))
 
 pub loop-e-preserved : goal.loop-e-preserved
 loop-e-preserved c = record {
@@ -42,7 +49,8 @@ loop-e-preserved c = record {
   kept = λ k. omega (arith, c.loop-e.invariant.kept k, c.reserve_at.ensures.kept k);
   retry_kept = omega (arith, c.loop-e.invariant.retry_kept, c.reserve_at.ensures.retry_room);
   retry_room = omega (arith, c.loop-e.invariant.retry_room, c.reserve_at.ensures.retry_room);
-  room = each_more c.loop-e.e c.args.more c.loop-e.self.rooms c.reserve_at.new.self.rooms c.loop-e.invariant.room c.reserve_at.ensures.kept c.in_ok-reserve_at.ensures.room;
+  room = each_more c.loop-e.e c.args.more c.loop-e.self.rooms c.reserve_at.new.self.rooms c.loop-e.invariant.room c.reserve_at.ensures.kept
+      c.in_ok-reserve_at.ensures.room;
 }
 
 pub returns-clause-lists : goal.returns-clause-lists
@@ -53,7 +61,13 @@ returns-clause-retry c = c.loop-e.invariant.retry
 
 pub returns-clause-room : goal.returns-clause-room
 returns-clause-room c =
-    λ k within. c.loop-e.invariant.room k (omega (arith, ap length c.loop-e.invariant.lists, many (λ (l : Walked). l.members) [] c.self.inside.delay_lists.items, ap (λ w. length w.lists) c.self.view_is))
+    λ k within. c.loop-e.invariant.room k
+    (omega (
+      arith,
+      ap length c.loop-e.invariant.lists,
+      many (λ (l : Walked). l.members) [] c.self.inside.delay_lists.items,
+      ap (λ w. length w.lists) c.self.view_is,
+    ))
 
 pub returns-clause-retry_room : goal.returns-clause-retry_room
 returns-clause-retry_room c = c.loop-e.invariant.retry_room

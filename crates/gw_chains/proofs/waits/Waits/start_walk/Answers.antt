@@ -3,7 +3,10 @@ use Rattle.gw_chains.proofs.Waiting.{lists_kept, waiting_kept, place_after, room
 use Rattle.gw_chains.proofs.waits.Waits.start_walk.Goals as goal
 
 pub invariant_of-self : goal.invariant_of-self
-invariant_of-self c = (omega arith, waiting_kept _ _ _ _ _ (ap (λ w. w.lists) c.self.view_is) c.requires c.index_mut.ensures.value c.start_walk.ensures.members _ c.self.invariant.1)
+invariant_of-self c = (
+  omega arith,
+  waiting_kept _ _ _ _ _ (ap (λ w. w.lists) c.self.view_is) c.requires c.index_mut.ensures.value c.start_walk.ensures.members _ c.self.invariant.1,
+)
 
 pub returns-clause-lists : goal.returns-clause-lists
 returns-clause-lists c = lists_kept _ _ _ _ _ (ap (λ w. w.lists) c.self.view_is) c.requires c.index_mut.ensures.value c.start_walk.ensures.members
@@ -12,4 +15,5 @@ pub returns-clause-place : goal.returns-clause-place
 returns-clause-place c = place_after _ _ _ _ _ (ap (λ w. w.lists) c.self.view_is) c.requires c.index_mut.ensures.value ∙ c.start_walk.ensures.place
 
 pub returns-clause-room : goal.returns-clause-room
-returns-clause-room c = rooms_kept _ _ _ _ _ (ap (λ w. w.lists) c.self.view_is) c.requires c.index_mut.ensures.value _ _ (ap (λ w. w.rooms) c.self.view_is) c.start_walk.ensures.room
+returns-clause-room c = rooms_kept _ _ _ _ _ (ap (λ w. w.lists) c.self.view_is) c.requires c.index_mut.ensures.value _ _
+    (ap (λ w. w.rooms) c.self.view_is) c.start_walk.ensures.room

@@ -16,18 +16,28 @@ pub overflow_sub-self : goal.overflow_sub-self
 overflow_sub-self c = omega (arith, list_fits _ _ _ _ c.take.new.self (ap (λ w. w.lists) c.self.view_is) c.requires.there c.index_mut.ensures.value)
 
 pub invariant_of-self : goal.invariant_of-self
-invariant_of-self c = (omega arith, omega (arith, waiting_changed _ _ _ _ c.take.new.self (ap (λ w. w.lists) c.self.view_is) c.requires.there c.index_mut.ensures.value))
+invariant_of-self c = (
+  omega arith,
+  omega (arith, waiting_changed _ _ _ _ c.take.new.self (ap (λ w. w.lists) c.self.view_is) c.requires.there c.index_mut.ensures.value),
+)
 
 pub returns-clause-lists : goal.returns-clause-lists
 returns-clause-lists c =
-    list_changed _ _ _ _ _ (ap (λ w. w.lists) c.self.view_is) c.requires.there c.index_mut.ensures.value (λ ms. remove ms (at 0 c.args.self.now.places c.args.entity)) (c.take.ensures.members ∙ ap (remove c.index_mut.result.now.members) (sym (place_shown _ _ _ _ c.take.new.self (ap (λ w. w.lists) c.self.view_is) c.requires.there c.index_mut.ensures.value _ (ap (λ w. w.places) c.self.view_is))))
+    list_changed _ _ _ _ _ (ap (λ w. w.lists) c.self.view_is) c.requires.there c.index_mut.ensures.value
+    (λ ms. remove ms (at 0 c.args.self.now.places c.args.entity))
+    (c.take.ensures.members ∙ ap (remove c.index_mut.result.now.members)
+    (sym (place_shown _ _ _ _ c.take.new.self (ap (λ w. w.lists) c.self.view_is) c.requires.there c.index_mut.ensures.value _
+    (ap (λ w. w.places) c.self.view_is))))
 
 pub returns-clause-place : goal.returns-clause-place
 returns-clause-place c =
-    place_after _ _ _ _ _ (ap (λ w. w.lists) c.self.view_is) c.requires.there c.index_mut.ensures.value ∙ c.take.ensures.place ∙ sym (place_shown _ _ _ _ c.take.new.self (ap (λ w. w.lists) c.self.view_is) c.requires.there c.index_mut.ensures.value _ (ap (λ w. w.places) c.self.view_is))
+    place_after _ _ _ _ _ (ap (λ w. w.lists) c.self.view_is) c.requires.there c.index_mut.ensures.value ∙ c.take.ensures.place
+    ∙ sym (place_shown _ _ _ _ c.take.new.self (ap (λ w. w.lists) c.self.view_is) c.requires.there c.index_mut.ensures.value _
+    (ap (λ w. w.places) c.self.view_is))
 
 pub returns-clause-room : goal.returns-clause-room
 returns-clause-room c =
     rw (← c.self.view_is)
-    (loses (λ (l : Walked). room_of c.self.inside.waiting l.room) (λ (l : Walked). room_of (c.self.inside.waiting - 1) l.room) 0 (λ y. omega arith) _ _ _ c.take.new.self
+    (loses (λ (l : Walked). room_of c.self.inside.waiting l.room) (λ (l : Walked). room_of (c.self.inside.waiting - 1) l.room) 0
+    (λ y. omega arith) _ _ _ c.take.new.self
     (list_of _ _ _ _ (ap (λ w. w.lists) c.self.view_is) c.requires.there c.index_mut.ensures.value) (omega arith))

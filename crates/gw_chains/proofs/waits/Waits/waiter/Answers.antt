@@ -9,4 +9,5 @@ use Rattle.gw_chains.proofs.waits.Waits.waiter.Goals as goal
 pub returns : goal.returns
 returns c =
     rw (← c.self.view_is)
-    (c.get.ensures ∙ ap (λ ms. option_map (λ (m : Member). m.tx) (slice_get ms c.args.place)) (sym (here (λ (l : Walked). l.members) [] _ _ _ (list_of _ _ _ _ (ap (λ w. w.lists) c.self.view_is) c.requires c.index.ensures))))
+    (c.get.ensures ∙ ap (λ ms. option_map (λ (m : Member). m.tx) (slice_get ms c.args.place))
+    (sym (here (λ (l : Walked). l.members) [] _ _ _ (list_of _ _ _ _ (ap (λ w. w.lists) c.self.view_is) c.requires c.index.ensures))))

@@ -7,4 +7,5 @@ use Rattle.gw_chains.proofs.waits.Waits.waiting_len.Goals as goal
 pub returns : goal.returns
 returns c =
     rw (← c.self.view_is)
-    (c.len.ensures ∙ ap length (sym (here (λ (l : Walked). l.members) [] _ _ _ (list_of _ _ _ _ (ap (λ w. w.lists) c.self.view_is) c.requires c.index.ensures))))
+    (c.len.ensures ∙ ap length
+    (sym (here (λ (l : Walked). l.members) [] _ _ _ (list_of _ _ _ _ (ap (λ w. w.lists) c.self.view_is) c.requires c.index.ensures))))

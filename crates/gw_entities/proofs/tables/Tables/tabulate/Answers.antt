@@ -13,4 +13,5 @@ returns-clause-value c =
     let entered = rw (to_z-of_z w64 c.args.value c.ranges.value) at c.enter.ensures.value in
     ap (left_by c.enter.result) (at-set no_table tables c.args.t c.enter.new.self within)
     ∙ entered
-    ∙ ap (tabulation_of c.args.value) (c.index_mut.ensures.value ∙ sym (at-get_or_any no_table c.index_mut.result.now tables c.args.t within) ∙ ap (table_at c.args.t) c.self.view_is)
+    ∙ ap (tabulation_of c.args.value)
+    (c.index_mut.ensures.value ∙ sym (at-get_or_any no_table c.index_mut.result.now tables c.args.t within) ∙ ap (table_at c.args.t) c.self.view_is)

@@ -13,5 +13,9 @@ returns c =
     let s = c.self.inside in
     let class = rw (to_z-of_z w64 c.args.value c.ranges.value, ← c.self.view_is) at c.class_of-class.ensures in
     let classes = rw (c.deref_mut.ensures.value, class) at c.count_in.ensures.value in
-    rw (with_items_is s.classes c.count_in.new.classes (c.count_in.ensures.count ∙ c.deref_mut.ensures.len), to_z-of_z w64 c.args.sum c.ranges.sum, ← c.self.view_is)
+    rw (
+      with_items_is s.classes c.count_in.new.classes (c.count_in.ensures.count ∙ c.deref_mut.ensures.len),
+      to_z-of_z w64 c.args.sum c.ranges.sum,
+      ← c.self.view_is,
+    )
     (rw classes refl)

@@ -19,8 +19,10 @@ of-requires c =
     record {
       parameters = rw parameters (carried_ascends row.parameters c.requires.ascending.parameters);
       facilities = rw c.in_ok-copy_of.ensures c.requires.ascending.facilities;
-      units = AllPairs-from_map (λ (a b : ℕ × ℕ). a.0 < b.0) (λ (u : Amount). (u.entity, u.number)) c.from_vec-2.result (subst (AllPairs (λ (a b : ℕ × ℕ). a.0 < b.0)) (sym amounts) ordered.units);
-      amounts = All-from_map (λ (e : ℕ × ℕ). e.1 ≢ 0) (λ (u : Amount). (u.entity, u.number)) c.from_vec-2.result (subst (All (λ (e : ℕ × ℕ). e.1 ≢ 0)) (sym amounts) ordered.amounts);
+      units = AllPairs-from_map (λ (a b : ℕ × ℕ). a.0 < b.0) (λ (u : Amount). (u.entity, u.number)) c.from_vec-2.result
+          (subst (AllPairs (λ (a b : ℕ × ℕ). a.0 < b.0)) (sym amounts) ordered.units);
+      amounts = All-from_map (λ (e : ℕ × ℕ). e.1 ≢ 0) (λ (u : Amount). (u.entity, u.number)) c.from_vec-2.result
+          (subst (All (λ (e : ℕ × ℕ). e.1 ≢ 0)) (sym amounts) ordered.amounts);
     }
 
 pub returns : goal.returns

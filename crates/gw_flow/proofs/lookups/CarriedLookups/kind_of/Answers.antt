@@ -10,7 +10,9 @@ use Rattle.gw_flow.proofs.lookups.CarriedLookups.kind_of.Goals as goal
 
 pub returns : goal.returns
 returns c =
-    let kind : option_map kind_viewed c.map.result ≡ option_map (λ (p : Parameter). kind_seen c.args.self.now.returns.now p.kind) c.of_key.result = search (rules, of_calls) in
+    let kind : option_map kind_viewed c.map.result
+    ≡ option_map (λ (p : Parameter). kind_seen c.args.self.now.returns.now p.kind) c.of_key.result = search (rules, of_calls) in
     kind ∙ ap (option_map (λ (p : Parameter). kind_seen c.args.self.now.returns.now p.kind)) c.of_key.ensures
-    ∙ entry-of_key (λ (p : Parameter). p.number) (λ (p : Parameter). kind_seen c.args.self.now.returns.now p.kind) c.args.parameter c.as_slice-parameters.result.now
+    ∙ entry-of_key (λ (p : Parameter). p.number) (λ (p : Parameter). kind_seen c.args.self.now.returns.now p.kind) c.args.parameter
+    c.as_slice-parameters.result.now
     ∙ ap (λ ps. entry (params_of c.args.self.now.returns.now ps) c.args.parameter) (search rules)

@@ -8,4 +8,5 @@ pub has_units-requires-clause-asked : goal.has_units-requires-clause-asked
 has_units-requires-clause-asked c = rw c.as_slice-2.ensures (units_from_viewed c.row.inside.params c.row.inside.facilities c.row.inside.units c.row.invariant)
 
 pub has_units-requires-clause-amounts : goal.has_units-requires-clause-amounts
-has_units-requires-clause-amounts c = rw c.as_slice-2.ensures (amounts_from_viewed c.row.inside.params c.row.inside.facilities c.row.inside.units c.row.invariant)
+has_units-requires-clause-amounts c =
+    rw c.as_slice-2.ensures (amounts_from_viewed c.row.inside.params c.row.inside.facilities c.row.inside.units c.row.invariant)

@@ -22,9 +22,11 @@ added c =
     let t = c.self.inside in
     let u = c.args.user in
     let j = c.args.job in
-    let rows : c.add_row-spec.new.rows.items ≡ t.rows.items ++ new_row u j ∷ [] = c.add_row-spec.ensures.rows ∙ ap (λ (xs : List Row). xs ++ new_row u j ∷ []) c.make_room.ensures.rows in
+    let rows : c.add_row-spec.new.rows.items ≡ t.rows.items ++ new_row u j ∷ [] = c.add_row-spec.ensures.rows
+    ∙ ap (λ (xs : List Row). xs ++ new_row u j ∷ []) c.make_room.ensures.rows in
     let slot_is : c.len-slot.result ≡ length t.rows.items = search rules in
-    let last : slice_get c.deref.result.now c.len-slot.result ≡ Some (new_row u j) = rw (c.deref.ensures.value, rows, slot_is) (get-last t.rows.items (new_row u j)) in
+    let last : slice_get c.deref.result.now c.len-slot.result ≡ Some (new_row u j) =
+    rw (c.deref.ensures.value, rows, slot_is) (get-last t.rows.items (new_row u j)) in
     record {
       rows = rows;
       queue = rw (c.list_if_ready.ensures.items, last, slot_is, c.make_room.ensures.ready) refl;
@@ -50,7 +52,8 @@ returns-then-is_err-clause-refused c =
 pub returns-then-is_err-clause-same : goal.returns-then-is_err-clause-same
 returns-then-is_err-clause-same c =
     let t = c.self.inside in
-    let same : service c.make_room.new.rows.items c.make_room.new.ready.items c.make_room.new.journal.items ≡ service t.rows.items t.ready.items t.journal.items = rw (c.make_room.ensures.rows, c.make_room.ensures.ready, c.make_room.ensures.journal) refl in
+    let same : service c.make_room.new.rows.items c.make_room.new.ready.items c.make_room.new.journal.items
+    ≡ service t.rows.items t.ready.items t.journal.items = rw (c.make_room.ensures.rows, c.make_room.ensures.ready, c.make_room.ensures.journal) refl in
     same ∙ c.self.view_is
 
 pub invariant_of-self : goal.invariant_of-self
@@ -85,8 +88,15 @@ invariant_of-self-2 c =
     let none = free (goal.at.invariant_of-self-2 c).After-list_if_ready in
     let ok = c.if-is_err.ensures.value in
     record {
-      kept = rw (after.rows, after.queue, after.log) (submit_kept t.rows.items t.ready.items t.journal.items t.out t.steps u j c.self.invariant.kept none c.add_row-spec.ensures.starts c.add_row-spec.ensures.fits);
-      journal_room = omega (arith, from_ok c.make_room.result ok c.make_room.ensures.journal_room, c.push_reserved.ensures.len, c.push_reserved.ensures.capacity);
+      kept = rw (after.rows, after.queue, after.log)
+          (submit_kept t.rows.items t.ready.items t.journal.items t.out t.steps u j c.self.invariant.kept none
+          c.add_row-spec.ensures.starts c.add_row-spec.ensures.fits);
+      journal_room = omega (
+        arith,
+        from_ok c.make_room.result ok c.make_room.ensures.journal_room,
+        c.push_reserved.ensures.len,
+        c.push_reserved.ensures.capacity,
+      );
       ready_room = omega (arith, from_ok c.make_room.result ok c.make_room.ensures.ready_room, c.list_if_ready.ensures.len, c.list_if_ready.ensures.capacity);
     }
 
@@ -101,7 +111,8 @@ returns-clause-event c =
     let u = c.args.user in
     let j = c.args.job in
     let after = added (goal.at.returns-clause-event c).After-list_if_ready in
-    rw (after.rows, after.queue, after.log) (submit_service t.rows.items t.ready.items t.journal.items u j c.self.invariant.kept.submits) ∙ ap (with_event (Submit u j)) c.self.view_is
+    rw (after.rows, after.queue, after.log) (submit_service t.rows.items t.ready.items t.journal.items u j c.self.invariant.kept.submits)
+    ∙ ap (with_event (Submit u j)) c.self.view_is
 
 pub returns-clause-pass : goal.returns-clause-pass
 returns-clause-pass c =

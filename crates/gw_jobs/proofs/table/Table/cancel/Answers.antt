@@ -26,7 +26,8 @@ returns-then-is_err-clause-refused c =
     memory_refuses (cancel_fault c.args.pass.now c.args.self.now) (ap (cancel_fault c.args.pass.now) (sym c.self.view_is) ∙ sym is ∙ told)
 
 pub returns-then-is_err-clause-same : goal.returns-then-is_err-clause-same
-returns-then-is_err-clause-same c = ap (λ (es : List StoredEvent). service c.self.inside.rows.items c.self.inside.ready.items es) c.reserve_more.ensures.same ∙ c.self.view_is
+returns-then-is_err-clause-same c =
+    ap (λ (es : List StoredEvent). service c.self.inside.rows.items c.self.inside.ready.items es) c.reserve_more.ensures.same ∙ c.self.view_is
 
 pub cancel_row-requires : goal.cancel_row-requires
 cancel_row-requires c =
@@ -45,7 +46,8 @@ invariant_of-self-2 c =
     let told : cancel_refusal c.args.pass.now t.rows.items c.is_full-full.result ≡ None = search rules in
     let log : c.push_reserved.new.self.items ≡ t.journal.items ++ stored.Cancel k ∷ [] = search rules in
     record {
-      kept = rw (c.cancel_row.ensures.rows, c.remove_slot.ensures.items, log, c.slot-slot.ensures) (cancel_kept t.rows.items t.ready.items t.journal.items t.out t.steps c.args.pass.now c.self.invariant.kept (sym is ∙ told));
+      kept = rw (c.cancel_row.ensures.rows, c.remove_slot.ensures.items, log, c.slot-slot.ensures)
+          (cancel_kept t.rows.items t.ready.items t.journal.items t.out t.steps c.args.pass.now c.self.invariant.kept (sym is ∙ told));
       journal_room = search rules;
       ready_room = omega (arith, c.self.invariant.ready_room, c.remove_slot.ensures.len, c.remove_slot.ensures.capacity);
     }
@@ -63,4 +65,5 @@ returns-clause-event c =
     let t = c.self.inside in
     let k = c.args.pass.now.slot in
     let log : c.push_reserved.new.self.items ≡ t.journal.items ++ stored.Cancel k ∷ [] = search rules in
-    rw (c.cancel_row.ensures.rows, c.remove_slot.ensures.items, log, c.slot-slot.ensures) (cancel_service t.rows.items t.ready.items t.journal.items k) ∙ ap (with_event (Cancel k)) c.self.view_is
+    rw (c.cancel_row.ensures.rows, c.remove_slot.ensures.items, log, c.slot-slot.ensures)
+    (cancel_service t.rows.items t.ready.items t.journal.items k) ∙ ap (with_event (Cancel k)) c.self.view_is

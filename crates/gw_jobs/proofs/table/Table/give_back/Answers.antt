@@ -28,7 +28,9 @@ counts c =
     comes_back t.rows.items t.ready.items t.journal.items t.out t.steps c.args.task.slot c.in-Some.before p.state.steps p.job c.self.invariant.kept (fits c)
 
 -- the ready list has the slot too, if the row is ready again
-listed : (c : After-list_if_ready) → c.list_if_ready.new.ready.items ≡ c.self.inside.ready.items ++ slot_if_ready c.args.task.slot (slice_get (change_row c.args.task.slot (returned_row c.args.task.sim.state.steps) c.self.inside.rows.items) c.args.task.slot)
+listed : (c : After-list_if_ready) → c.list_if_ready.new.ready.items ≡ c.self.inside.ready.items
+    ++ slot_if_ready c.args.task.slot
+    (slice_get (change_row c.args.task.slot (returned_row c.args.task.sim.state.steps) c.self.inside.rows.items) c.args.task.slot)
 listed c =
     let t = c.self.inside in
     let k = c.args.task.slot in
@@ -38,17 +40,22 @@ listed c =
     ∙ ap (λ (m : ℕ). t.ready.items ++ slot_if_ready m (slice_get (change_row k (returned_row n) t.rows.items) m)) c.slot-slot.ensures
 
 -- and the journal the event
-logged : (c : After-list_if_ready) → c.push_reserved.new.self.items ≡ c.self.inside.journal.items ++ stored.Return c.args.task.slot c.args.task.sim.state.steps ∷ []
+logged : (c : After-list_if_ready) → c.push_reserved.new.self.items ≡ c.self.inside.journal.items
+    ++ stored.Return c.args.task.slot c.args.task.sim.state.steps ∷ []
 logged c = rw (sym c.slot-slot.ensures, sym c.steps-steps.ensures.steps) (search rules)
 
 -- the row that came back
-came_back : (c : After-deref-3) (f : FitsRow c.self.inside.rows.items c.args.task.slot c.args.task.sim.job c.args.task.sim.state.steps c.in-Some.before) → slice_get c.deref-3.result.now c.slot-slot.result ≡ Some (returned_row c.args.task.sim.state.steps f.row)
+came_back : (c : After-deref-3)
+    (f : FitsRow c.self.inside.rows.items c.args.task.slot c.args.task.sim.job c.args.task.sim.state.steps c.in-Some.before)
+    → slice_get c.deref-3.result.now c.slot-slot.result ≡ Some (returned_row c.args.task.sim.state.steps f.row)
 came_back c f =
     let t = c.self.inside in
     let k = c.args.task.slot in
     let p = c.args.task.sim in
     let n = p.state.steps in
-    subst (λ (m : ℕ). slice_get c.deref-3.result.now m ≡ Some (returned_row n f.row)) (sym c.slot-slot.ensures) (ap (λ (rows : List Row). slice_get rows k) (c.deref-3.ensures.value ∙ c.put_back_row.ensures.rows) ∙ here_after t.rows.items k p.job n c.in-Some.before f)
+    subst (λ (m : ℕ). slice_get c.deref-3.result.now m ≡ Some (returned_row n f.row)) (sym c.slot-slot.ensures)
+    (ap (λ (rows : List Row). slice_get rows k) (c.deref-3.ensures.value ∙ c.put_back_row.ensures.rows)
+    ∙ here_after t.rows.items k p.job n c.in-Some.before f)
 
 pub put_back_row-requires : goal.put_back_row-requires
 put_back_row-requires c =
@@ -84,9 +91,12 @@ invariant_of-self c =
     let here = (goal.at.invariant_of-self c).After-list_if_ready in
     let one = (counts (goal.at.invariant_of-self c).In-Some).some_out in
     let left : t.out - 1 + 1 ≡ t.out = omega (arith, one) in
-    let more : c.recounted-self-inside.result + c.in-Some.before ≡ t.steps + p.state.steps = omega (arith, c.recounted-self-inside.ensures, c.steps-steps.ensures.steps) in
+    let more : c.recounted-self-inside.result + c.in-Some.before ≡ t.steps + p.state.steps =
+    omega (arith, c.recounted-self-inside.ensures, c.steps-steps.ensures.steps) in
     record {
-      kept = rw (c.put_back_row.ensures.rows, listed here, logged here) (return_kept t.rows.items t.ready.items t.journal.items t.out (t.out - 1) t.steps c.recounted-self-inside.result k c.in-Some.before p c.self.invariant.kept f c.steps-steps.ensures.reached left more);
+      kept = rw (c.put_back_row.ensures.rows, listed here, logged here)
+          (return_kept t.rows.items t.ready.items t.journal.items t.out (t.out - 1) t.steps c.recounted-self-inside.result k
+          c.in-Some.before p c.self.invariant.kept f c.steps-steps.ensures.reached left more);
       journal_room = omega (arith, one, c.self.invariant.journal_room, c.push_reserved.ensures.len, c.push_reserved.ensures.capacity);
       ready_room = omega (arith, one, c.self.invariant.ready_room, c.list_if_ready.ensures.len, c.list_if_ready.ensures.capacity);
     }
@@ -104,12 +114,14 @@ returns-clause-told c =
     ∙ ap (λ (x : Receipt). Some x) (sym same)
 
 -- the table afterwards is the service after the event
-event : (c : After-list_if_ready) → service c.put_back_row.new.rows.items c.list_if_ready.new.ready.items c.push_reserved.new.self.items ≡ with_event (Return c.args.task.slot c.args.task.sim.state.steps) c.args.self.now
+event : (c : After-list_if_ready) → service c.put_back_row.new.rows.items c.list_if_ready.new.ready.items c.push_reserved.new.self.items
+    ≡ with_event (Return c.args.task.slot c.args.task.sim.state.steps) c.args.self.now
 event c =
     let t = c.self.inside in
     let k = c.args.task.slot in
     let n = c.args.task.sim.state.steps in
-    rw (c.put_back_row.ensures.rows, listed c, logged c) (return_service t.rows.items t.ready.items t.journal.items k n) ∙ ap (with_event (Return k n)) c.self.view_is
+    rw (c.put_back_row.ensures.rows, listed c, logged c) (return_service t.rows.items t.ready.items t.journal.items k n)
+    ∙ ap (with_event (Return k n)) c.self.view_is
 
 pub returns-clause-event : goal.returns-clause-event
 returns-clause-event c = event (goal.at.returns-clause-event c).After-list_if_ready

@@ -13,14 +13,16 @@ use Rattle.gw_jobs.proofs.table.Table.take.Goals.{After-is_full-full, In-Some}
 use Rattle.gw_jobs.proofs.table.Table.take.Goals as goal
 
 -- what a take replies, by the ready list and whether the journal is full
-asked : (c : After-is_full-full) → take_reply (service c.self.inside.rows.items c.self.inside.ready.items c.self.inside.journal.items) ≡ take_from c.self.inside.ready.items c.is_full-full.result
+asked : (c : After-is_full-full) → take_reply (service c.self.inside.rows.items c.self.inside.ready.items c.self.inside.journal.items)
+    ≡ take_from c.self.inside.ready.items c.is_full-full.result
 asked c =
     let t = c.self.inside in
     let full : c.is_full-full.result ≡ nat_lt most_events (length t.journal.items + t.out + 2) = search rules in
     sym (take_reply_is t.rows.items t.ready.items t.journal.items t.out t.steps c.is_full-full.result c.self.invariant.kept full)
 
 -- the slot that is taken is the one that a take replies
-takes : (c : In-Some) → take_reply (service c.self.inside.rows.items c.self.inside.ready.items c.self.inside.journal.items) ≡ take_from c.self.inside.ready.items c.is_full-full.result
+takes : (c : In-Some) → take_reply (service c.self.inside.rows.items c.self.inside.ready.items c.self.inside.journal.items)
+    ≡ take_from c.self.inside.ready.items c.is_full-full.result
     → take_reply (service c.self.inside.rows.items c.self.inside.ready.items c.self.inside.journal.items) ≡ Ok (Some c.in-Some.slot)
 takes c is =
     let told : take_from c.self.inside.ready.items c.is_full-full.result ≡ Ok (Some c.in-Some.slot) = search rules in
@@ -40,7 +42,8 @@ returns-then-is_err-clause-refused c =
     memory_refuses_take (take_reply c.args.self.now) c.in-Some.slot (ap take_reply (sym c.self.view_is) ∙ told)
 
 pub returns-then-is_err-clause-same : goal.returns-then-is_err-clause-same
-returns-then-is_err-clause-same c = ap (λ (es : List StoredEvent). service c.self.inside.rows.items c.self.inside.ready.items es) c.reserve_more.ensures.same ∙ c.self.view_is
+returns-then-is_err-clause-same c =
+    ap (λ (es : List StoredEvent). service c.self.inside.rows.items c.self.inside.ready.items es) c.reserve_more.ensures.same ∙ c.self.view_is
 
 pub invariant_of-self-2 : goal.invariant_of-self-2
 invariant_of-self-2 c =
@@ -49,7 +52,8 @@ invariant_of-self-2 c =
     let told = takes (goal.at.invariant_of-self-2 c).In-Some (asked (goal.at.invariant_of-self-2 c).After-is_full-full) in
     let log : c.push_reserved.new.self.items ≡ t.journal.items ++ stored.Take k ∷ [] = search rules in
     record {
-      kept = rw (c.take_row-sim.ensures.rows, c.remove.ensures.items, log) (take_kept t.rows.items t.ready.items t.journal.items t.out t.steps k c.self.invariant.kept told);
+      kept = rw (c.take_row-sim.ensures.rows, c.remove.ensures.items, log)
+          (take_kept t.rows.items t.ready.items t.journal.items t.out t.steps k c.self.invariant.kept told);
       journal_room = search rules;
       ready_room = search rules;
     }
@@ -69,11 +73,13 @@ returns-clause-task c =
     }
 
 -- the table afterwards is the service after the event
-event : (c : goal.After-push_reserved) → service c.take_row-sim.new.rows.items c.remove.new.self.items c.push_reserved.new.self.items ≡ with_event (Take c.in-Some.slot) c.args.self.now
+event : (c : goal.After-push_reserved) → service c.take_row-sim.new.rows.items c.remove.new.self.items c.push_reserved.new.self.items
+    ≡ with_event (Take c.in-Some.slot) c.args.self.now
 event c =
     let t = c.self.inside in
     let log : c.push_reserved.new.self.items ≡ t.journal.items ++ stored.Take c.in-Some.slot ∷ [] = search rules in
-    rw (c.take_row-sim.ensures.rows, c.remove.ensures.items, log) (take_service t.rows.items t.ready.items t.journal.items c.in-Some.slot) ∙ ap (with_event (Take c.in-Some.slot)) c.self.view_is
+    rw (c.take_row-sim.ensures.rows, c.remove.ensures.items, log) (take_service t.rows.items t.ready.items t.journal.items c.in-Some.slot)
+    ∙ ap (with_event (Take c.in-Some.slot)) c.self.view_is
 
 pub returns-clause-event : goal.returns-clause-event
 returns-clause-event c = event c

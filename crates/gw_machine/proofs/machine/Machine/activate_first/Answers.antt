@@ -14,5 +14,6 @@ returns-in-Some-clause-first c =
       n,
       map member_number (rest m.current_events.items),
       first-number m.current_events.items c.in-Some.tx (sym c.in-Some.ensures.first),
-      ap (λ (xs : List Member). record (state_of m) { lists = record (lists_of m) { active = Some n; current_events = map member_number xs } }) c.in-Some.ensures.rest,
+      ap (λ (xs : List Member). record (state_of m)
+          { lists = record (lists_of m) { active = Some n; current_events = map member_number xs } }) c.in-Some.ensures.rest,
     ))

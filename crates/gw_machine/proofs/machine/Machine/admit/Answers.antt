@@ -19,10 +19,12 @@ loop-tx-init c =
     let asked = c.may_admit.ensures.frame in
     let state = starts.state ∙ ap state_of asked in
     let facilities = ap (λ (x : Configuration). x.entities.facilities) starts.frame ∙ ap (λ (x : Configuration). x.entities.facilities) asked in
-    let same = ap (λ (xs : List (List Member)). length (at [] xs c.args.e)) starts.lists ∙ ap (λ (x : Configuration). length (at [] x.waits.lists c.args.e)) asked in
+    let same = ap (λ (xs : List (List Member)). length (at [] xs c.args.e)) starts.lists
+    ∙ ap (λ (x : Configuration). length (at [] x.waits.lists c.args.e)) asked in
     let room = ap (λ (x : Configuration). x.current_events.room) starts.frame ∙ ap (λ (x : Configuration). x.current_events.room) asked in
     record {
-      walk = ap (λ i. rest_of_walk bs c.args.e i begun) starts.place ∙ walk-first bs c.args.e begun ∙ ap (λ s. admission bs c.args.e (delay_list c.args.e s) s) state;
+      walk = ap (λ i. rest_of_walk bs c.args.e i begun) starts.place ∙ walk-first bs c.args.e begun
+          ∙ ap (λ s. admission bs c.args.e (delay_list c.args.e s) s) state;
       steady = steady-same bs (c.args.self.now.steps + 1) c.args.self.now begun c.requires.steady state facilities;
       steps = ap (λ (x : Configuration). x.steps) starts.frame ∙ ap (λ (x : Configuration). x.steps) asked;
       slots = ap (λ (x : Configuration). x.last) starts.frame ∙ ap (λ (x : Configuration). x.last) asked;
@@ -48,7 +50,14 @@ loop-tx-smaller-then-not-admit_one c =
     let list = ap (λ w. length (at [] w.lists c.args.e)) moves.0 in
     let place = ap (λ w. at 0 w.places c.args.e) moves.0 in
     let kept = ap (λ (xs : List (List Member)). length (at [] xs c.args.e)) c.pass_waiter.ensures.lists in
-    omega (arith, list, place, kept, c.pass_waiter.ensures.place, left-place c.args.e (at 0 c.loop-tx.self.waits.places c.args.e) c.loop-tx.self c.in-Some.tx (c.in-Some.ensures))
+    omega (
+      arith,
+      list,
+      place,
+      kept,
+      c.pass_waiter.ensures.place,
+      left-place c.args.e (at 0 c.loop-tx.self.waits.places c.args.e) c.loop-tx.self c.in-Some.tx (c.in-Some.ensures),
+    )
 
 pub loop-tx-preserved-then-not-admit_one : goal.loop-tx-preserved-then-not-admit_one
 loop-tx-preserved-then-not-admit_one c =
@@ -67,7 +76,8 @@ loop-tx-preserved-then-not-admit_one c =
       walk = ap (λ i. rest_of_walk bs c.args.e i c.pass_waiter.new.self) (passes.place ∙ ap (λ i. i + 1) place)
           ∙ walk-same bs c.args.e (was + 1) c.admit_one.new.self c.pass_waiter.new.self passes.lists passes.state
           ∙ walk-on bs c.args.e was c.loop-tx.self c.admit_one.new.self c.in-Some.tx false there e.state e.moves ∙ old.walk;
-      steady = steady-same bs (c.args.self.now.steps + 1) c.admit_one.new.self c.pass_waiter.new.self steady passes.state (ap (λ (x : Configuration). x.entities.facilities) passes.frame);
+      steady = steady-same bs (c.args.self.now.steps + 1) c.admit_one.new.self c.pass_waiter.new.self steady passes.state
+          (ap (λ (x : Configuration). x.entities.facilities) passes.frame);
       steps = ap (λ (x : Configuration). x.steps) passes.frame ∙ e.frame.0 ∙ old.steps;
       slots = ap (λ (x : Configuration). x.last) passes.frame ∙ e.frame.2 ∙ old.slots;
       there = rw (ap (λ (x : Configuration). x.entities.facilities) passes.frame) (rw e.frame.1 old.there);
@@ -80,7 +90,12 @@ loop-tx-smaller c =
     let there = c.in-Some.ensures in
     let was = at 0 c.loop-tx.self.waits.places c.args.e in
     let moves = c.if-not-admit_one.ensures.moves in
-    omega (arith, moves.2, left-moved c.args.e was c.loop-tx.self c.admit_one.new.self c.in-Some.tx there moves, left-place c.args.e was c.loop-tx.self c.in-Some.tx there)
+    omega (
+      arith,
+      moves.2,
+      left-moved c.args.e was c.loop-tx.self c.admit_one.new.self c.in-Some.tx there moves,
+      left-place c.args.e was c.loop-tx.self c.in-Some.tx there,
+    )
 
 pub loop-tx-preserved : goal.loop-tx-preserved
 loop-tx-preserved c =
@@ -104,7 +119,8 @@ loop-tx-preserved c =
 pub returns : goal.returns
 returns c =
     let steady = c.loop-tx.invariant.steady in (
-      sym (walk-ends c.args.blocks.now (length c.loop-tx.self.entities.facilities.values) c.args.e (at 0 c.loop-tx.self.waits.places c.args.e) c.loop-tx.self steady.fit c.in_default.ensures) ∙ c.loop-tx.invariant.walk,
+      sym (walk-ends c.args.blocks.now (length c.loop-tx.self.entities.facilities.values) c.args.e
+          (at 0 c.loop-tx.self.waits.places c.args.e) c.loop-tx.self steady.fit c.in_default.ensures) ∙ c.loop-tx.invariant.walk,
       c.loop-tx.invariant.slots,
     )
 

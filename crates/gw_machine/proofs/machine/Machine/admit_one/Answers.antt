@@ -19,18 +19,21 @@ pub get-transaction-requires : goal.get-transaction-requires
 get-transaction-requires c =
     let m = configuration_of c.self.inside in
     let e = c.args.e in
-    ranked-at m.transactions c.args.tx (at [] m.waits.lists e) (at 0 m.waits.places e) (c.self.invariant.0.delay_lists e (rw (← c.self.view_is) at c.requires.there)) (rw (← c.self.view_is) at c.requires.waiter)
+    ranked-at m.transactions c.args.tx (at [] m.waits.lists e) (at 0 m.waits.places e)
+    (c.self.invariant.0.delay_lists e (rw (← c.self.view_is) at c.requires.there)) (rw (← c.self.view_is) at c.requires.waiter)
 
 pub enter_if_free-requires-clause-held : goal.enter_if_free-requires-clause-held
 enter_if_free-requires-clause-held c =
     let m = configuration_of c.self.inside in
     let e = c.args.e in
     subst (λ (m : Configuration). Holds m.transactions c.args.tx) c.self.view_is
-    (ranked-at m.transactions c.args.tx (at [] m.waits.lists e) (at 0 m.waits.places e) (c.self.invariant.0.delay_lists e (rw (← c.self.view_is) at c.requires.there)) (rw (← c.self.view_is) at c.requires.waiter))
+    (ranked-at m.transactions c.args.tx (at [] m.waits.lists e) (at 0 m.waits.places e)
+    (c.self.invariant.0.delay_lists e (rw (← c.self.view_is) at c.requires.there)) (rw (← c.self.view_is) at c.requires.waiter))
 
 pub returns-in-Some-clause-steady : goal.returns-in-Some-clause-steady
 returns-in-Some-clause-steady c =
-    steady-looked_at c.args.blocks.now c.args.self.now c.args.e c.requires.there (c.args.self.now.steps + 1) c.requires.steady (at 0 c.args.self.now.waits.places c.args.e) c.args.tx c.requires.waiter c.enter_if_free.new.self (state_is c) c.enter_if_free.ensures.frame.1
+    steady-looked_at c.args.blocks.now c.args.self.now c.args.e c.requires.there (c.args.self.now.steps + 1) c.requires.steady
+    (at 0 c.args.self.now.waits.places c.args.e) c.args.tx c.requires.waiter c.enter_if_free.new.self (state_is c) c.enter_if_free.ensures.frame.1
 
 pub enter_if_free-requires-clause-block : goal.enter_if_free-requires-clause-block
 enter_if_free-requires-clause-block c =

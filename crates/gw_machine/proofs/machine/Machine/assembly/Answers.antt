@@ -5,7 +5,8 @@ use Rattle.gw_machine.specs.Shown.{configuration_of}
 use Rattle.gw_machine.proofs.machine.Machine.assembly.Goals as goal
 
 pub returns-clause-value : goal.returns-clause-value
-returns-clause-value c = rw (← c.self.view_is) (ap (option_map assembly_of) c.find.ensures ∙ assembly-found (configuration_of c.self.inside) c.args.block c.args.set)
+returns-clause-value c =
+    rw (← c.self.view_is) (ap (option_map assembly_of) c.find.ensures ∙ assembly-found (configuration_of c.self.inside) c.args.block c.args.set)
 
 pub returns-clause-own : goal.returns-clause-own
 returns-clause-own c =

@@ -17,9 +17,11 @@ use Rattle.gw_machine.proofs.machine.Machine.counted_wants.Goals as goal
 pub loop-waiter-init : goal.loop-waiter-init
 loop-waiter-init c =
     let m = c.args.self.now in
-    let all : c.into_iter-waiter-iterator.result ≡ at [] m.waits.lists c.args.e = rw (← c.self.view_is) (c.into_iter-waiter-iterator.ensures.into_iter_gives ∙ c.waiters-waiter-items.ensures) in
+    let all : c.into_iter-waiter-iterator.result ≡ at [] m.waits.lists c.args.e =
+    rw (← c.self.view_is) (c.into_iter-waiter-iterator.ensures.into_iter_gives ∙ c.waiters-waiter-items.ensures) in
     record {
-      ranked = subst (AllByRecursion (IsRanked m.transactions)) (sym all) (rw (← c.self.view_is) (c.self.invariant.0.delay_lists c.args.e (rw (← c.self.view_is) at c.requires)));
+      ranked = subst (AllByRecursion (IsRanked m.transactions)) (sym all)
+          (rw (← c.self.view_is) (c.self.invariant.0.delay_lists c.args.e (rw (← c.self.view_is) at c.requires)));
       counted = λ b.
           let none : want_count b c.new-wants.result.items ≡ 0 = ap (want_count b) c.new-wants.ensures.items in
           let same = ap (λ (ms : List Member). occurrences b (map (next_of m.transactions.txs) (map member_number ms))) all in
@@ -33,7 +35,15 @@ count_newcomer-requires c =
     let m = c.args.self.now in
     let s = state_of m in
     let few : length (delay_list c.args.e s) ≤ 2 ^ 62 = rw (← c.self.view_is) (few-waits (configuration_of c.self.inside) c.self.invariant.0 c.args.e) in
-    record { few = omega (arith, c.loop-waiter.invariant.counted c.get.result.now.next, occurrences-few c.get.result.now.next (nexts c.args.e s), length-map (delay_list c.args.e s) (next_of s.transactions), few) }
+    record {
+      few = omega (
+        arith,
+        c.loop-waiter.invariant.counted c.get.result.now.next,
+        occurrences-few c.get.result.now.next (nexts c.args.e s),
+        length-map (delay_list c.args.e s) (next_of s.transactions),
+        few,
+      );
+    }
 
 pub returns : goal.returns
 returns c =

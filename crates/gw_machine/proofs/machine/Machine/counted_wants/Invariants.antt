@@ -10,6 +10,7 @@ use Rattle.gw_machine.proofs.machine.Machine.counted_wants.Given as goal
 abbrev pub invariant-loop-waiter : goal.invariant-loop-waiter
 invariant-loop-waiter l = record {
   ranked : AllByRecursion (IsRanked l.self.transactions) l.waiter-iterator;
-  counted : (b : ℕ) → want_count b l.wants.items + occurrences b (map (next_of l.self.transactions.txs) (map member_number l.waiter-iterator)) ≡ occurrences b (nexts l.e (state_of l.self));
+  counted : (b : ℕ) → want_count b l.wants.items
+      + occurrences b (map (next_of l.self.transactions.txs) (map member_number l.waiter-iterator)) ≡ occurrences b (nexts l.e (state_of l.self));
   past : ArePast l.self.entries l.wants.items;
 }

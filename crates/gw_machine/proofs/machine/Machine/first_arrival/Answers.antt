@@ -12,7 +12,8 @@ use Rattle.gw_machine.proofs.machine.Machine.first_arrival.Goals.{After-arrive}
 scheduled : (c : After-arrive) → c.arrive.new.self.scheduled ≡ with_one_more_at c.args.number c.args.self.now.scheduled
 scheduled c =
     ap (λ (s : State). s.scheduled) c.arrive.ensures.state
-    ∙ ap (with_one_more_at c.args.number) (ap (λ (s : State). s.scheduled) c.set_streams.ensures.state ∙ ap (λ (s : State). s.scheduled) c.in_ok-parameters-in-Ok.ensures.state)
+    ∙ ap (with_one_more_at c.args.number)
+    (ap (λ (s : State). s.scheduled) c.set_streams.ensures.state ∙ ap (λ (s : State). s.scheduled) c.in_ok-parameters-in-Ok.ensures.state)
 
 pub returns-in_ok-parameters-in-Ok-clause-scheduled : goal.returns-in_ok-parameters-in-Ok-clause-scheduled
 returns-in_ok-parameters-in-Ok-clause-scheduled c =
@@ -23,11 +24,13 @@ returns-in_ok-parameters-in-Ok-clause-scheduled c =
 
 pub returns-in_ok-parameters-in-Ok-clause-made_by : goal.returns-in_ok-parameters-in-Ok-clause-made_by
 returns-in_ok-parameters-in-Ok-clause-made_by c =
-    let before = ap (λ (s : State). length s.transactions) c.set_streams.ensures.state ∙ ap (λ (s : State). length s.transactions) c.in_ok-parameters-in-Ok.ensures.state in
+    let before = ap (λ (s : State). length s.transactions) c.set_streams.ensures.state
+    ∙ ap (λ (s : State). length s.transactions) c.in_ok-parameters-in-Ok.ensures.state in
     let after = ap (λ (s : State). length s.transactions) c.arrive.ensures.state ∙ length-put_next None (state_of c.set_streams.new.self).transactions _ in
     omega (arith, before, after)
 
 pub first_moment-requires-clause-interval : goal.first_moment-requires-clause-interval
 first_moment-requires-clause-interval c =
     let there = c.requires.there ∙ ap Some c.in-Generate.is in
-    intervals_ask_for_nothing c.args.verified.now c.args.number c.in-Generate.g (environment_of_next c.in-Generate.g.priority (state_of c.args.self.now)) c.requires.checked c.requires.spelled there
+    intervals_ask_for_nothing c.args.verified.now c.args.number c.in-Generate.g
+    (environment_of_next c.in-Generate.g.priority (state_of c.args.self.now)) c.requires.checked c.requires.spelled there

@@ -20,20 +20,26 @@ first_arrival-requires-clause-there c =
     rw own (block_here c.args.verified.now.blocks c.loop-i.i default (rw own at c.loop-i-test.true))
 
 -- what one arrival made, told of the blocks of the object
-made : (c : After-is_some) → Schedules c.in_ok-end.end (first_arrival c.args.verified.now (c.loop-i.i + 1) (get_or c.args.verified.now.blocks c.loop-i.i default) (state_of c.loop-i.self)) (state_of c.first_arrival.new.self)
+made : (c : After-is_some)
+    → Schedules c.in_ok-end.end
+    (first_arrival c.args.verified.now (c.loop-i.i + 1) (get_or c.args.verified.now.blocks c.loop-i.i default) (state_of c.loop-i.self))
+    (state_of c.first_arrival.new.self)
 made c =
-    subst (λ (bs : List Block). Schedules c.in_ok-end.end (first_arrival c.args.verified.now (c.loop-i.i + 1) (get_or bs c.loop-i.i default) (state_of c.loop-i.self)) (state_of c.first_arrival.new.self))
+    subst (λ (bs : List Block). Schedules c.in_ok-end.end
+    (first_arrival c.args.verified.now (c.loop-i.i + 1) (get_or bs c.loop-i.i default) (state_of c.loop-i.self)) (state_of c.first_arrival.new.self))
     c.loop-i.invariant.blocks c.in_ok-end.ensures.made
 
 pub returns-then-is_some-clause-made : goal.returns-then-is_some-clause-made
 returns-then-is_some-clause-made c =
-    stops c.args.verified.now (state_of c.loop-i.self) c.loop-i.i default (rw c.loop-i.invariant.blocks at c.loop-i-test.true) c.in_ok-end.end (state_of c.first_arrival.new.self) _ _ (sym c.if-is_some.ensures)
+    stops c.args.verified.now (state_of c.loop-i.self) c.loop-i.i default (rw c.loop-i.invariant.blocks at c.loop-i-test.true)
+    c.in_ok-end.end (state_of c.first_arrival.new.self) _ _ (sym c.if-is_some.ensures)
     (made (goal.at.returns-then-is_some-clause-made c).After-is_some) c.loop-i.invariant.made
 
 pub loop-i-preserved : goal.loop-i-preserved
 loop-i-preserved c = record {
   blocks = c.loop-i.invariant.blocks;
-  made = continues c.args.verified.now (state_of c.loop-i.self) c.loop-i.i default (rw c.loop-i.invariant.blocks at c.loop-i-test.true) c.in_ok-end.end (state_of c.first_arrival.new.self) _ (sym c.if-is_some.ensures)
+  made = continues c.args.verified.now (state_of c.loop-i.self) c.loop-i.i default (rw c.loop-i.invariant.blocks at c.loop-i-test.true)
+      c.in_ok-end.end (state_of c.first_arrival.new.self) _ (sym c.if-is_some.ensures)
       (made (goal.at.loop-i-preserved c).After-is_some) c.loop-i.invariant.made;
   readable = c.in_ok-end.ensures.readable;
   slots = c.in_ok-end.ensures.slots ∙ c.loop-i.invariant.slots;
@@ -44,4 +50,5 @@ loop-i-preserved c = record {
 }
 
 pub returns-clause-made : goal.returns-clause-made
-returns-clause-made c = is_done c.args.verified.now (state_of c.loop-i.self) c.loop-i.i _ (rw c.loop-i.invariant.blocks at c.loop-i-test.false) c.loop-i.invariant.made
+returns-clause-made c = is_done c.args.verified.now (state_of c.loop-i.self) c.loop-i.i _
+    (rw c.loop-i.invariant.blocks at c.loop-i-test.false) c.loop-i.invariant.made

@@ -10,7 +10,8 @@ use Rattle.gw_machine.proofs.machine.Machine.first_arrivals.Given as goal
 abbrev pub invariant-loop-i : goal.invariant-loop-i
 invariant-loop-i l = record {
   blocks : l.blocks ≡ l.verified.blocks;
-  made : first_arrivals l.verified (l.i + 1) (drop l.i l.verified.blocks) (state_of l.self) ≡ first_arrivals l.verified 1 l.verified.blocks (state_of l.fn.self);
+  made : first_arrivals l.verified (l.i + 1) (drop l.i l.verified.blocks) (state_of l.self)
+      ≡ first_arrivals l.verified 1 l.verified.blocks (state_of l.fn.self);
   readable : IsReadable l.self;
   own : IsOf l.verified l.self;
   slots : l.self.last ≡ l.fn.self.last;

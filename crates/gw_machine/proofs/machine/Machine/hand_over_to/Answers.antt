@@ -18,13 +18,15 @@ seize-there f (Some block) h = (block, refl)
 pub get-transaction-requires : goal.get-transaction-requires
 get-transaction-requires c =
     let m = configuration_of c.self.inside in
-    ranked-at m.transactions c.args.tx (at [] m.waits.lists c.args.f) 0 (c.self.invariant.0.delay_lists c.args.f (rw (← c.self.view_is) at c.requires.there)) (rw (← c.self.view_is) at c.requires.first)
+    ranked-at m.transactions c.args.tx (at [] m.waits.lists c.args.f) 0
+    (c.self.invariant.0.delay_lists c.args.f (rw (← c.self.view_is) at c.requires.there)) (rw (← c.self.view_is) at c.requires.first)
 
 pub take_over-requires-clause-held : goal.take_over-requires-clause-held
 take_over-requires-clause-held c =
     let m = configuration_of c.self.inside in
     subst (λ (m : Configuration). Holds m.transactions c.args.tx) c.self.view_is
-    (ranked-at m.transactions c.args.tx (at [] m.waits.lists c.args.f) 0 (c.self.invariant.0.delay_lists c.args.f (rw (← c.self.view_is) at c.requires.there)) (rw (← c.self.view_is) at c.requires.first))
+    (ranked-at m.transactions c.args.tx (at [] m.waits.lists c.args.f) 0
+    (c.self.invariant.0.delay_lists c.args.f (rw (← c.self.view_is) at c.requires.there)) (rw (← c.self.view_is) at c.requires.first))
 
 pub take_over-requires-clause-block : goal.take_over-requires-clause-block
 take_over-requires-clause-block c =

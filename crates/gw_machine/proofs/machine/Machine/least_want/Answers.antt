@@ -14,4 +14,5 @@ returns c =
     let some : 0 < length ws = search rules in
     let told : AreTold s.entries ws = search rules in
     let known = subst (λ ws. IsKnown ws c.args.e s) (sym c.of-wants.ensures) (c.self.invariant.1 c.args.e) in
-    rw (← c.self.view_is) (least-by c.args.blocks.now c.args.e (λ b. want_count b ws) (λ b. occurrences b (nexts c.args.e s)) ((counted-of ws c.args.e s some known).counted told) c.least_of.result c.least_of.ensures)
+    rw (← c.self.view_is) (least-by c.args.blocks.now c.args.e (λ b. want_count b ws) (λ b. occurrences b (nexts c.args.e s))
+    ((counted-of ws c.args.e s some known).counted told) c.least_of.result c.least_of.ensures)

@@ -19,7 +19,8 @@ loop-for_copy-preserved c =
     record {
       state = ap (copies_made (length front) n t c.args.target) e.state ∙ sym (copies-next (length front) n t c.args.target was)
           ∙ ap (λ (k : ℕ). copies_made k n t c.args.target was) (sym one_more) ∙ old.state;
-      same = popped-same front c.in-Some.for_copy (kept_of n c.loop-for_copy.self.transactions) (subst (λ (all : List Numbered). all ≡ replicate (length all) (kept_of n c.loop-for_copy.self.transactions)) popped old.same)
+      same = popped-same front c.in-Some.for_copy (kept_of n c.loop-for_copy.self.transactions)
+          (subst (λ (all : List Numbered). all ≡ replicate (length all) (kept_of n c.loop-for_copy.self.transactions)) popped old.same)
           ∙ ap (replicate (length front)) (sym e.same);
       frame = search (rules, e.frame, old.frame);
       held = e.held;

@@ -7,7 +7,8 @@ use Rattle.gw_machine.proofs.machine.Machine.make_copies.Given as goal
 -- the copies that are still to be made lead where all of them lead
 abbrev pub invariant-loop-for_copy : goal.invariant-loop-for_copy
 invariant-loop-for_copy l = record {
-  state : copies_made (length l.parameters.items) l.tx.number l.transaction l.target (state_of l.self) ≡ copies_made l.copies l.tx.number l.transaction l.target (state_of l.fn.self);
+  state : copies_made (length l.parameters.items) l.tx.number l.transaction l.target (state_of l.self)
+      ≡ copies_made l.copies l.tx.number l.transaction l.target (state_of l.fn.self);
   same : l.parameters.items ≡ replicate (length l.parameters.items) (kept_of l.tx.number l.self.transactions);
   frame : l.self ≡ record l.fn.self { transactions = l.self.transactions; current_events = l.self.current_events };
   held : Holds l.self.transactions l.tx;

@@ -9,4 +9,6 @@ use Rattle.gw_machine.proofs.machine.Machine.members.Goals as goal
 pub returns-clause-value : goal.returns-clause-value
 returns-clause-value c =
     rw (← c.self.view_is) (
-    c.members.ensures.value ∙ sym (ap length (user_chain-at (configuration_of c.self.inside) c.args.chain) ∙ length-map (at [] (configuration_of c.self.inside).chains.lists c.args.chain) handle_number))
+    c.members.ensures.value ∙ sym
+    (ap length (user_chain-at (configuration_of c.self.inside) c.args.chain)
+    ∙ length-map (at [] (configuration_of c.self.inside).chains.lists c.args.chain) handle_number))

@@ -23,11 +23,13 @@ eval-requires-clause-can c = can (goal.at.eval-requires-clause-can c).After-env
 pub kept_value-requires : goal.kept_value-requires
 kept_value-requires c =
     let p = c.args.verified.now in
-    may_read_kept p c.env-in_default.result (environment_for c.args.subject (state_of c.args.self.now)) c.env-in_default.ensures.same (c.env-in_default.ensures.own p c.requires.own) c.args.source c.requires.holds c.requires.set c.in_default.not-Random c.in_default.not-Procedure
+    may_read_kept p c.env-in_default.result (environment_for c.args.subject (state_of c.args.self.now)) c.env-in_default.ensures.same
+    (c.env-in_default.ensures.own p c.requires.own) c.args.source c.requires.holds c.requires.set c.in_default.not-Random c.in_default.not-Procedure
 
 pub returns-in-Procedure : goal.returns-in-Procedure
 returns-in-Procedure c =
     let p = c.args.verified.now in
     let env = environment_for c.args.subject (state_of c.args.self.now) in
     ap (λ o. source_value p env c.args.bound o c.args.streams.now) c.in-Procedure.is
-    ∙ procedure-value p c.env.result env c.env.ensures.same c.requires.spelled c.requires.checked c.args.bound c.in-Procedure.procedure c.args.streams.now c.eval.result (can (goal.at.returns-in-Procedure c).After-env) c.eval.ensures
+    ∙ procedure-value p c.env.result env c.env.ensures.same c.requires.spelled c.requires.checked c.args.bound c.in-Procedure.procedure
+    c.args.streams.now c.eval.result (can (goal.at.returns-in-Procedure c).After-env) c.eval.ensures

@@ -13,13 +13,19 @@ is_nothing : (c : In_ok-machine) → state_of c.in_ok-machine.machine ≡ nothin
 is_nothing c = c.in_ok-machine.ensures.state ∙ ap (λ (p : Parts). nothing p c.args.count c.args.streams) c.object.ensures.value
 
 pub first_arrivals-requires-clause-own : goal.first_arrivals-requires-clause-own
-first_arrivals-requires-clause-own c = nothing-own c.args.verified.now c.args.count c.args.streams c.in_ok-machine.machine (is_nothing (goal.at.first_arrivals-requires-clause-own c).In_ok-machine)
+first_arrivals-requires-clause-own c =
+    nothing-own c.args.verified.now c.args.count c.args.streams c.in_ok-machine.machine
+    (is_nothing (goal.at.first_arrivals-requires-clause-own c).In_ok-machine)
 
 pub first_arrivals-requires-clause-blocks : goal.first_arrivals-requires-clause-blocks
-first_arrivals-requires-clause-blocks c = nothing-blocks c.args.verified.now c.args.count c.args.streams c.in_ok-machine.machine (is_nothing (goal.at.first_arrivals-requires-clause-blocks c).In_ok-machine)
+first_arrivals-requires-clause-blocks c =
+    nothing-blocks c.args.verified.now c.args.count c.args.streams c.in_ok-machine.machine
+    (is_nothing (goal.at.first_arrivals-requires-clause-blocks c).In_ok-machine)
 
 pub first_arrivals-requires-clause-few : goal.first_arrivals-requires-clause-few
-first_arrivals-requires-clause-few c = nothing-few c.args.verified.now c.args.count c.args.streams c.in_ok-machine.machine (is_nothing (goal.at.first_arrivals-requires-clause-few c).In_ok-machine)
+first_arrivals-requires-clause-few c =
+    nothing-few c.args.verified.now c.args.count c.args.streams c.in_ok-machine.machine
+    (is_nothing (goal.at.first_arrivals-requires-clause-few c).In_ok-machine)
 
 few_slots : (p : Parts) → BlocksFit (length p.entities) p.blocks → greatest_set p.blocks ≤ 64
 few_slots p fit = greatest-few (length p.entities) p.blocks fit

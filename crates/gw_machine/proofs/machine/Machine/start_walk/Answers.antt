@@ -6,10 +6,12 @@ use Rattle.std.proofs.Common.{map, ap, refl}
 use Rattle.gw_machine.proofs.machine.Machine.start_walk.Goals as goal
 
 pub returns-clause-state : goal.returns-clause-state
-returns-clause-state c = rw (← c.self.view_is) (state-walked (configuration_of c.self.inside) c.start_walk.new.self c.start_walk.ensures.lists c.start_walk.ensures.retry)
+returns-clause-state c =
+    rw (← c.self.view_is) (state-walked (configuration_of c.self.inside) c.start_walk.new.self c.start_walk.ensures.lists c.start_walk.ensures.retry)
 
 pub invariant_of-self : goal.invariant_of-self
 invariant_of-self c = (
   linked-walked (configuration_of c.self.inside) c.self.invariant.0 c.start_walk.new.self c.start_walk.ensures.lists c.start_walk.ensures.retry,
-  known-by c.self.inside.wants (state_of (configuration_of c.self.inside)) _ refl (ap (map (map member_number)) c.start_walk.ensures.lists) refl c.self.invariant.1,
+  known-by c.self.inside.wants (state_of (configuration_of c.self.inside)) _ refl (ap (map (map member_number)) c.start_walk.ensures.lists)
+      refl c.self.invariant.1,
 )

@@ -13,13 +13,16 @@ pub returns-then-e-len-clause-others : goal.returns-then-e-len-clause-others
 returns-then-e-len-clause-others c =
     let xs = c.self.inside.lists.items in
     let there : c.args.e < length xs = search rules in
-    λ k other. rw (← c.self.view_is) (ap (λ (ls : List (List Want)). at [] ls k) (map-set wants_of [] xs c.args.e c.join_known.new.wants there) ∙ at-put_other [] (map wants_of xs) c.args.e k _ other)
+    λ k other. rw (← c.self.view_is)
+    (ap (λ (ls : List (List Want)). at [] ls k) (map-set wants_of [] xs c.args.e c.join_known.new.wants there)
+    ∙ at-put_other [] (map wants_of xs) c.args.e k _ other)
 
 pub returns-then-e-len-clause-here : goal.returns-then-e-len-clause-here
 returns-then-e-len-clause-here c =
     let xs = c.self.inside.lists.items in
     let there : c.args.e < length xs = search rules in
-    let old : at [] (map wants_of xs) c.args.e ≡ c.index_mut.result.now.items = read-map wants_of [] xs c.args.e c.index_mut.result.now there c.index_mut.ensures.value in
+    let old : at [] (map wants_of xs) c.args.e ≡ c.index_mut.result.now.items =
+    read-map wants_of [] xs c.args.e c.index_mut.result.now there c.index_mut.ensures.value in
     let new : at [] (map wants_of (slice_set xs c.args.e c.join_known.new.wants)) c.args.e ≡ c.join_known.new.wants.items =
     ap (λ (ls : List (List Want)). at [] ls c.args.e) (map-set wants_of [] xs c.args.e c.join_known.new.wants there) ∙ at-put [] (map wants_of xs) c.args.e _ in
     rw (← c.self.view_is) (rw (old, new) c.join_known.ensures)
@@ -35,5 +38,9 @@ pub join_known-requires : goal.join_known-requires
 join_known-requires c =
     let xs = c.self.inside.lists.items in
     let there : c.args.e < length xs = search rules in
-    let old : at [] (map wants_of xs) c.args.e ≡ c.index_mut.result.now.items = read-map wants_of [] xs c.args.e c.index_mut.result.now there c.index_mut.ensures.value in
-    record { few = λ told. subst (λ (ws : List Want). want_count c.args.block ws ≤ 2 ^ 62) old ((rw (← c.self.view_is) at c.requires.few) (subst (AreTold c.args.entries.now) (sym old) told)) }
+    let old : at [] (map wants_of xs) c.args.e ≡ c.index_mut.result.now.items =
+    read-map wants_of [] xs c.args.e c.index_mut.result.now there c.index_mut.ensures.value in
+    record {
+      few = λ told. subst (λ (ws : List Want). want_count c.args.block ws ≤ 2 ^ 62) old
+          ((rw (← c.self.view_is) at c.requires.few) (subst (AreTold c.args.entries.now) (sym old) told));
+    }

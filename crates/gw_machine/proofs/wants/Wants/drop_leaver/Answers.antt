@@ -12,15 +12,19 @@ pub returns-then-e-len-clause-others : goal.returns-then-e-len-clause-others
 returns-then-e-len-clause-others c =
     let xs = c.self.inside.lists.items in
     let there : c.args.e < length xs = search rules in
-    λ k other. rw (← c.self.view_is) (ap (λ (ls : List (List Want)). at [] ls k) (map-set wants_of [] xs c.args.e c.count_leaver.new.wants there) ∙ at-put_other [] (map wants_of xs) c.args.e k _ other)
+    λ k other. rw (← c.self.view_is)
+    (ap (λ (ls : List (List Want)). at [] ls k) (map-set wants_of [] xs c.args.e c.count_leaver.new.wants there)
+    ∙ at-put_other [] (map wants_of xs) c.args.e k _ other)
 
 pub returns-then-e-len-clause-here : goal.returns-then-e-len-clause-here
 returns-then-e-len-clause-here c =
     let xs = c.self.inside.lists.items in
     let there : c.args.e < length xs = search rules in
-    let old : at [] (map wants_of xs) c.args.e ≡ c.index_mut.result.now.items = read-map wants_of [] xs c.args.e c.index_mut.result.now there c.index_mut.ensures.value in
+    let old : at [] (map wants_of xs) c.args.e ≡ c.index_mut.result.now.items =
+    read-map wants_of [] xs c.args.e c.index_mut.result.now there c.index_mut.ensures.value in
     let new : at [] (map wants_of (slice_set xs c.args.e c.count_leaver.new.wants)) c.args.e ≡ c.count_leaver.new.wants.items =
-    ap (λ (ls : List (List Want)). at [] ls c.args.e) (map-set wants_of [] xs c.args.e c.count_leaver.new.wants there) ∙ at-put [] (map wants_of xs) c.args.e _ in
+    ap (λ (ls : List (List Want)). at [] ls c.args.e) (map-set wants_of [] xs c.args.e c.count_leaver.new.wants there)
+    ∙ at-put [] (map wants_of xs) c.args.e _ in
     rw (← c.self.view_is) (rw (old, new) c.count_leaver.ensures)
 
 pub returns-else-e-len-clause-here : goal.returns-else-e-len-clause-here

@@ -11,7 +11,9 @@ returns-then-is_ok-clause-others c =
     let xs = c.reach.new.lists.items in
     let within : c.args.e < vec_len c.reach.new.lists = search rules in
     let there : c.args.e < length xs = omega (arith, within, c.reach.new.lists.ok) in
-    λ k other. rw (← c.self.view_is) (ap (λ (ls : List (List Want)). at [] ls k) (map-set wants_of [] xs c.args.e c.args.wants there) ∙ at-put_other [] (map wants_of xs) c.args.e k _ other ∙ c.reach.ensures.known k)
+    λ k other. rw (← c.self.view_is)
+    (ap (λ (ls : List (List Want)). at [] ls k) (map-set wants_of [] xs c.args.e c.args.wants there)
+    ∙ at-put_other [] (map wants_of xs) c.args.e k _ other ∙ c.reach.ensures.known k)
 
 pub returns-then-is_ok-clause-here : goal.returns-then-is_ok-clause-here
 returns-then-is_ok-clause-here c =

@@ -12,4 +12,5 @@ returns c =
     let count = (get_or c.deref.result.now entry none).count in
     let is = ap (λ ts. (get_or ts entry none).count) c.deref.ensures.0 ∙ count_read place turns entry _ c.entry_for-entry.ensures.taken in
     λ p i. did_back c.args.back (frame_of c.args.self.now) count _ is c.if-back-count.false
-    (count_written place turns c.deref_mut.result.now entry (count + 1) c.deref_mut.ensures.value ∙ c.entry_for-entry.ensures.once (count + 1) (ap (λ n. n + 1) is))
+    (count_written place turns c.deref_mut.result.now entry (count + 1) c.deref_mut.ensures.value
+    ∙ c.entry_for-entry.ensures.once (count + 1) (ap (λ n. n + 1) is))

@@ -24,7 +24,8 @@ kept_value-requires c =
     let good = source_is_good parts c.requires.holds.0 c.args.sna c.requires.code.entities c.requires.holds.1 in
     let is = source_is (goal.at.kept_value-requires c).After-source_of in
     subst (MayReadKept c.args.env.now) (sym is)
-    (may_read_kept parts c.args.env.now c.requires.environment (source_of parts.entities operand) (value_by_operand parts.entities operand) (on (frame_of c.args.self.now)) good c.requires.going (λ q same. c.in_default.not-Procedure q (is ∙ same)))
+    (may_read_kept parts c.args.env.now c.requires.environment (source_of parts.entities operand) (value_by_operand parts.entities operand)
+    (on (frame_of c.args.self.now)) good c.requires.going (λ q same. c.in_default.not-Procedure q (is ∙ same)))
 
 pub returns-in_default : goal.returns-in_default
 returns-in_default c =
@@ -34,8 +35,10 @@ returns-in_default c =
     let next = on (frame_of c.args.self.now) in
     let value_fits : SFits w64 c.kept_value.result = search rules in
     let made_fits : SFits w64 c.operand_value.result = search rules in
-    let kept = subst (λ (o : Operand). kept_value env o ≡ Some c.kept_value.result) (source_is (goal.at.returns-in_default c).After-source_of) c.kept_value.ensures in
-    let value : c.operand_value.result ≡ value_by_operand parts.entities operand c.kept_value.result = rw (c.as_slice-entities.ensures, c.as_operand-operand.ensures, to_z-of_z) at c.operand_value.ensures in
+    let kept = subst (λ (o : Operand). kept_value env o ≡ Some c.kept_value.result)
+    (source_is (goal.at.returns-in_default c).After-source_of) c.kept_value.ensures in
+    let value : c.operand_value.result ≡ value_by_operand parts.entities operand c.kept_value.result =
+    rw (c.as_slice-entities.ensures, c.as_operand-operand.ensures, to_z-of_z) at c.operand_value.ensures in
     let reads = kept_read env (source_of parts.entities operand) (value_by_operand parts.entities operand) next c.kept_value.result kept in
     subst (λ x. Did parts (Value c.args.sna) x c.push_and_go.result (frame_of c.push_and_go.new.self)) (ap (λ v. push_value v next) value ∙ sym reads)
     (rw to_z-of_z at (c.push_and_go.ensures parts (Value c.args.sna)))

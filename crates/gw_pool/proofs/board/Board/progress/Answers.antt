@@ -4,4 +4,8 @@ use Rattle.gw_pool.proofs.Steps.{reads}
 use Rattle.gw_pool.proofs.board.Board.progress.Goals as goal
 
 pub load-requires : goal.load-requires
-load-requires c = (ap (λ (s : Seat). s.board) c.seat.view_is ∙ c.requires.board ∙ sym c.self.view_is, omega (arith, c.self.invariant, c.requires.slot), reads _ _ _ _ c.requires.slot)
+load-requires c = (
+  ap (λ (s : Seat). s.board) c.seat.view_is ∙ c.requires.board ∙ sym c.self.view_is,
+  omega (arith, c.self.invariant, c.requires.slot),
+  reads _ _ _ _ c.requires.slot,
+)

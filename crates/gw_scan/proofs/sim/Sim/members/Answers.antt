@@ -6,7 +6,8 @@ use Rattle.gw_scan.proofs.sim.Sim.members.Goals as goal
 pub members-requires : goal.members-requires
 members-requires c =
     let below = subst (λ (p : Progress). c.args.chain < length p.job.parts.entities) (sym c.self.view_is) c.requires in
-    let entities : length c.self.inside.machine.entities.facilities.values ≡ length c.self.inside.spec.parts.entities = c.self.invariant.reached.bounded.numbers.whole.entity_tables.facilities in
+    let entities : length c.self.inside.machine.entities.facilities.values ≡ length c.self.inside.spec.parts.entities =
+    c.self.invariant.reached.bounded.numbers.whole.entity_tables.facilities in
     omega (arith, below, entities)
 
 pub returns : goal.returns

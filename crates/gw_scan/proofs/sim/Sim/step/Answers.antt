@@ -18,7 +18,8 @@ makes c = search rules
 pub step-requires-clause-ready : goal.step-requires-clause-ready
 step-requires-clause-ready c =
     let runs : c.self.inside.machine.ended ≡ None = search rules in
-    subst (λ (p : Parts). IsReady p c.self.inside.machine) (sym c.verified_object-verified.ensures.value) (is_ready c.self.inside.spec c.self.inside.machine c.self.invariant.reached runs c.self.invariant.slots)
+    subst (λ (p : Parts). IsReady p c.self.inside.machine) (sym c.verified_object-verified.ensures.value)
+    (is_ready c.self.inside.spec c.self.inside.machine c.self.invariant.reached runs c.self.invariant.slots)
 
 pub invariant_of-self-2 : goal.invariant_of-self-2
 invariant_of-self-2 c = record {

@@ -8,4 +8,5 @@ pub returns : goal.returns
 returns c =
     let e = c.args.entity in
     let below = subst (λ (p : Progress). e < length p.job.parts.entities) (sym c.self.view_is) c.requires in
-    c.waiting_len.ensures ∙ waiting-of c.self.inside.spec c.self.inside.machine e c.self.invariant.reached below ∙ ap (λ (p : Progress). length (delay_list e p.state)) c.self.view_is
+    c.waiting_len.ensures ∙ waiting-of c.self.inside.spec c.self.inside.machine e c.self.invariant.reached below
+    ∙ ap (λ (p : Progress). length (delay_list e p.state)) c.self.view_is

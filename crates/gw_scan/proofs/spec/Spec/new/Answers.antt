@@ -25,7 +25,8 @@ counts c =
     subst (λ (n : ℕ). (0 < n) × (n ≤ 2 ^ 40)) (sym e) (count-within c.args.count c.args.verified.count range.1 limits.count_least limits.count_most)
 
 -- the job of the object that was handed in
-fits : (c : goal.In-Ok-new) → JobFits (record { parts = c.args.verified; streams = c.streams_of-streams.result; count = c.count_or-count.result; budget = c.args.budget })
+fits : (c : goal.In-Ok-new)
+    → JobFits (record { parts = c.args.verified; streams = c.streams_of-streams.result; count = c.count_or-count.result; budget = c.args.budget })
 fits c =
     let seeds = seeds_or c.args.seeds.now c.args.verified.seeds in
     let range = in_range c.args.seeds.now c.args.count c.args.budget (none c) in
@@ -44,6 +45,8 @@ fits c =
 
 pub invariant_of-result : goal.invariant_of-result
 invariant_of-result c = record {
-  fits = subst (λ (p : Parts). JobFits (record { parts = p; streams = c.streams_of-streams.result; count = c.count_or-count.result; budget = c.args.budget })) (sym c.in-Ok-new.ensures.ok) (fits c);
+  fits = subst (λ (p : Parts). JobFits
+      (record { parts = p; streams = c.streams_of-streams.result; count = c.count_or-count.result; budget = c.args.budget }))
+      (sym c.in-Ok-new.ensures.ok) (fits c);
   decoded = search rules;
 }

@@ -20,7 +20,14 @@ counts c =
     subst (λ (n : ℕ). (0 < n) × (n ≤ 2 ^ 40)) (sym e) (count-within c.args.count c.args.self.now.parts.count range.1 limits.count_least limits.count_most)
 
 -- the job of the same object
-fits : (c : goal.In-Ok-try_clone) → JobFits (record { parts = c.args.self.now.parts; streams = c.streams_of-streams.result; count = c.count_or-count.result; budget = c.args.self.now.budget })
+fits : (c : goal.In-Ok-try_clone)
+    → JobFits (record {
+      parts = c.args.self.now.parts;
+      streams = c.streams_of-streams.result;
+      count = c.count_or-count.result;
+      budget =
+          c.args.self.now.budget;
+    })
 fits c =
     let j = c.verified_object.ensures.fits in
     let seeds = seeds_or c.args.seeds.now c.args.self.now.parts.seeds in
@@ -39,8 +46,16 @@ fits c =
     }
 
 -- it is the one that is shared, with these seeds and this count
-same : (c : goal.In-Ok-try_clone) → record { parts = c.args.self.now.parts; streams = c.streams_of-streams.result; count = c.count_or-count.result; budget = c.args.self.now.budget }
-    ≡ job_of (record { verified = c.in-Ok-try_clone.verified; decoded = c.in-Ok.decoded; streams = c.streams_of-streams.result; count = c.count_or-count.result; budget = c.self.inside.budget })
+same : (c : goal.In-Ok-try_clone)
+    → record { parts = c.args.self.now.parts; streams = c.streams_of-streams.result; count = c.count_or-count.result; budget = c.args.self.now.budget }
+    ≡ job_of (record {
+      verified = c.in-Ok-try_clone.verified;
+      decoded = c.in-Ok.decoded;
+      streams = c.streams_of-streams.result;
+      count =
+          c.count_or-count.result;
+      budget = c.self.inside.budget;
+    })
 same c = search rules
 
 pub invariant_of-result : goal.invariant_of-result

@@ -30,5 +30,6 @@ returns c =
     let s = state_of c.args.machine.now in
     let drawn : ℤ × List ℕ = (c.in-Ok.drawn.0, with_first c.in-Ok.drawn.1 s.streams) in
     let is = c.in-Ok.ensures v.verified.now (environment_of_next c.args.g.priority s) in
-    let made : arriving v.verified.now v.tx.number v.transaction (generate_of c.args.g) s (Gives drawn) ≡ Gives (state_of c.enter_and_arrive.new.machine) = search rules in
+    let made : arriving v.verified.now v.tx.number v.transaction (generate_of c.args.g) s (Gives drawn)
+    ≡ Gives (state_of c.enter_and_arrive.new.machine) = search rules in
     (act-generate v.verified.now v.tx.number v.transaction (generate_of c.args.g) s (Gives drawn) c.requires.owed is ∙ made, search rules)

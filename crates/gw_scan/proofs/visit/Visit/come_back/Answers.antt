@@ -7,5 +7,6 @@ use Rattle.gw_scan.proofs.visit.Visit.come_back.Goals as goal
 
 pub block_after-requires : goal.block_after-requires
 block_after-requires c =
-    let is : parameter_at c.args.self.now.tx.number c.args.parameter (state_of c.args.machine.now).transactions ≡ Some (to_z w64 (of_z w64 c.parameter-value.result)) = search rules in
+    let is : parameter_at c.args.self.now.tx.number c.args.parameter (state_of c.args.machine.now).transactions
+    ≡ Some (to_z w64 (of_z w64 c.parameter-value.result)) = search rules in
     is_number c.args.self.now.verified.now.blocks _ c.requires.visit.steady.fit.few (subst (IsReturn c.args.self.now.verified.now.blocks) is c.requires.asks)

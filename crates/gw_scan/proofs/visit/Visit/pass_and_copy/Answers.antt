@@ -13,5 +13,6 @@ make_copies-requires-clause-same c =
     let n = c.args.self.now.tx.number in
     let old = c.reserve_copies.new.self.transactions in
     let new = c.enter_as_found.new.self.transactions in
-    let same : kept_of n new ≡ kept_of n old = ap (λ (values : List (Option ℤ)). numbered values new.last) e.parameters ∙ ap (λ (last : ℕ). numbered (parameters_at n old.txs) last) e.last in
+    let same : kept_of n new ≡ kept_of n old = ap (λ (values : List (Option ℤ)). numbered values new.last) e.parameters
+    ∙ ap (λ (last : ℕ). numbered (parameters_at n old.txs) last) e.last in
     c.in_ok-parameters.ensures.parameters ∙ ap (replicate c.args.copies) (sym same)

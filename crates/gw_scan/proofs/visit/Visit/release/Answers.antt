@@ -11,7 +11,8 @@ pub pass_and_hand_over-requires-clause-entering : goal.pass_and_hand_over-requir
 pass_and_hand_over-requires-clause-entering c =
     let r = c.in_ok-reserve_current.ensures in
     let e = c.release_facility.ensures in
-    passing-released c.args.self.now.verified.now.blocks c.args.machine.now c.reserve_current.new.self c.release_facility.new.self c.args.self.now.tx c.args.self.now.transaction c.args.f c.requires.visit c.requires.operands r.state r.frame e.state e.frame e.table
+    passing-released c.args.self.now.verified.now.blocks c.args.machine.now c.reserve_current.new.self c.release_facility.new.self
+    c.args.self.now.tx c.args.self.now.transaction c.args.f c.requires.visit c.requires.operands r.state r.frame e.state e.frame e.table
 
 pub pass_and_hand_over-requires-clause-idle : goal.pass_and_hand_over-requires-clause-idle
 pass_and_hand_over-requires-clause-idle c =

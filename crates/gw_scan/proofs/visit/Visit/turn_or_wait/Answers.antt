@@ -13,7 +13,8 @@ returns-in-Ok-true c =
       h.0,
       record {
         meets = h.1;
-        undo = turn-undone v c.args.pair h.0 (record { turned = true; streams = c.streams-before.result }) m new c.requires.first.visit c.requires.two refl c.streams-before.ensures h.2;
+        undo = turn-undone v c.args.pair h.0 (record { turned = true; streams = c.streams-before.result }) m new c.requires.first.visit
+            c.requires.two refl c.streams-before.ensures h.2;
         last = ((h.2).0).1;
         may = (h.2).1;
       },

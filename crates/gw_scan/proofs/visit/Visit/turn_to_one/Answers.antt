@@ -14,7 +14,8 @@ pub returns-in-Ok-false : goal.returns-in-Ok-false
 returns-in-Ok-false c =
     let m1 = c.turn_unless_refused.new.machine in
     let refused = subst (λ (b : Bool). TurnsTo (Ok b) c.args.self.now c.args.pair.0 c.args.machine.now m1) c.in-Ok-false.field-0-test c.in-Ok-false.ensures in
-    second_tried c.args.self.now c.args.pair c.args.machine.now m1 refused c.turn_unless_refused-in-Ok-false.result c.turn_unless_refused-in-Ok-false.new.machine c.turn_unless_refused-in-Ok-false.ensures
+    second_tried c.args.self.now c.args.pair c.args.machine.now m1 refused c.turn_unless_refused-in-Ok-false.result
+    c.turn_unless_refused-in-Ok-false.new.machine c.turn_unless_refused-in-Ok-false.ensures
 
 pub returns-in-Ok-true : goal.returns-in-Ok-true
 returns-in-Ok-true c =

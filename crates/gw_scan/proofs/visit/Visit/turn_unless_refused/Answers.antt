@@ -18,13 +18,15 @@ is_refused-requires c =
 pub turn-requires-in-Ok-true-clause-found : goal.turn-requires-in-Ok-true-clause-found
 turn-requires-in-Ok-true-clause-found c =
     let e = c.turn.ensures in
-    found_then c.args.self.now c.args.next c.args.machine.now c.turn.new.self c.is_refused.new.machine c.requires e.state e.held e.frame c.is_refused.ensures.frame
+    found_then c.args.self.now c.args.next c.args.machine.now c.turn.new.self c.is_refused.new.machine c.requires e.state e.held e.frame
+    c.is_refused.ensures.frame
     ∙ ap (λ (v : Visit). Some v.transaction) (sym c.towards-turned.ensures)
 
 pub turn-requires-in-Err-clause-found : goal.turn-requires-in-Err-clause-found
 turn-requires-in-Err-clause-found c =
     let e = c.turn.ensures in
-    found_then c.args.self.now c.args.next c.args.machine.now c.turn.new.self c.is_refused.new.machine c.requires e.state e.held e.frame c.is_refused.ensures.frame
+    found_then c.args.self.now c.args.next c.args.machine.now c.turn.new.self c.is_refused.new.machine c.requires e.state e.held e.frame
+    c.is_refused.ensures.frame
     ∙ ap (λ (v : Visit). Some v.transaction) (sym c.towards-turned.ensures)
 
 pub returns-in-Ok-false : goal.returns-in-Ok-false
@@ -32,21 +34,29 @@ returns-in-Ok-false c =
     let e = c.turn.ensures in
     turns c.args.self.now c.args.next c.args.machine.now c.turn.new.self c.is_refused.new.machine c.requires e.state e.held e.frame c.is_refused.ensures.frame
     (subst (λ (v : Visit). TellsOfNext (Ok false) v c.turn.new.self c.is_refused.new.machine) c.towards-turned.ensures
-    (subst (λ (b : Bool). TellsOfNext (Ok b) c.towards-turned.result c.turn.new.self c.is_refused.new.machine) c.in-Ok-false.field-0-test c.in-Ok-false.ensures.answer))
+    (subst (λ (b : Bool). TellsOfNext (Ok b) c.towards-turned.result c.turn.new.self c.is_refused.new.machine) c.in-Ok-false.field-0-test
+    c.in-Ok-false.ensures.answer))
 
 pub returns-in-Ok-true : goal.returns-in-Ok-true
 returns-in-Ok-true c =
     let e = c.turn.ensures in
-    is_refused c.args.self.now c.args.next c.args.machine.now c.turn.new.self c.is_refused.new.machine c.requires e.state e.held e.frame c.is_refused.ensures.frame
-    c.turn-in-Ok-true.new.self (c.turn-in-Ok-true.ensures.state ∙ ap (λ (v : Visit). turn_to c.args.self.now.tx.number v.transaction c.args.self.now.transaction.next (state_of c.is_refused.new.machine)) c.towards-turned.ensures)
+    is_refused c.args.self.now c.args.next c.args.machine.now c.turn.new.self c.is_refused.new.machine c.requires e.state e.held e.frame
+    c.is_refused.ensures.frame
+    c.turn-in-Ok-true.new.self
+    (c.turn-in-Ok-true.ensures.state
+    ∙ ap (λ (v : Visit). turn_to c.args.self.now.tx.number v.transaction c.args.self.now.transaction.next
+    (state_of c.is_refused.new.machine)) c.towards-turned.ensures)
     c.turn-in-Ok-true.ensures.frame c.is_refused.ensures.streams c.turn-in-Ok-true.ensures.held
     (subst (λ (v : Visit). TellsOfNext (Ok true) v c.turn.new.self c.is_refused.new.machine) c.towards-turned.ensures
-    (subst (λ (b : Bool). TellsOfNext (Ok b) c.towards-turned.result c.turn.new.self c.is_refused.new.machine) c.in-Ok-true.field-0-test c.in-Ok-true.ensures.answer))
+    (subst (λ (b : Bool). TellsOfNext (Ok b) c.towards-turned.result c.turn.new.self c.is_refused.new.machine) c.in-Ok-true.field-0-test
+    c.in-Ok-true.ensures.answer))
 
 pub returns-in-Err : goal.returns-in-Err
 returns-in-Err c =
     let e = c.turn.ensures in
     ends c.args.self.now c.args.next c.args.machine.now c.turn.new.self c.is_refused.new.machine c.requires e.state e.held e.frame c.is_refused.ensures.frame
-    c.turn-in-Err.new.self (c.turn-in-Err.ensures.state ∙ ap (λ (v : Visit). turn_to c.args.self.now.tx.number v.transaction c.args.self.now.transaction.next (state_of c.is_refused.new.machine)) c.towards-turned.ensures)
+    c.turn-in-Err.new.self (c.turn-in-Err.ensures.state
+    ∙ ap (λ (v : Visit). turn_to c.args.self.now.tx.number v.transaction c.args.self.now.transaction.next
+    (state_of c.is_refused.new.machine)) c.towards-turned.ensures)
     c.turn-in-Err.ensures.frame c.in-Err.end
     (subst (λ (v : Visit). TellsOfNext (Err c.in-Err.end) v c.turn.new.self c.is_refused.new.machine) c.towards-turned.ensures c.in-Err.ensures.answer)

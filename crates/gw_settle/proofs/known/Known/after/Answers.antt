@@ -11,5 +11,6 @@ units_after-requires c = amounts_ascend c.as_slice-3.result.now c.self.inside.li
 
 pub of_lists-requires : goal.of_lists-requires
 of_lists-requires c =
-    let fallen : row_view c.in_ok-params.params.items c.in_ok-owned.owned.items c.in_ok-units.units.items ≡ row_after c.args.times c.args.self.now c.args.next.now = search rules in
+    let fallen : row_view c.in_ok-params.params.items c.in_ok-owned.owned.items c.in_ok-units.units.items
+    ≡ row_after c.args.times c.args.self.now c.args.next.now = search rules in
     subst IsOrdered (sym fallen) (after_ordered c.args.times c.args.self.now c.args.next.now (subst IsOrdered c.self.view_is c.self.invariant))

@@ -13,13 +13,15 @@ pub params_joined-requires-clause-params : goal.params_joined-requires-clause-pa
 params_joined-requires-clause-params c =
     let is : c.as_slice.result.now ≡ c.self.inside.lists.value.params = search rules in
     subst (AllPairs (λ (a b : KnownParam). a.number < b.number)) (sym is)
-    (AllPairs-from_map (λ (a b : ℕ × ParamKind). a.0 < b.0) (λ (p : KnownParam). (p.number, kind_known p.kind)) c.self.inside.lists.value.params c.self.invariant.params)
+    (AllPairs-from_map (λ (a b : ℕ × ParamKind). a.0 < b.0) (λ (p : KnownParam). (p.number, kind_known p.kind))
+    c.self.inside.lists.value.params c.self.invariant.params)
 
 pub params_joined-requires-clause-kinds : goal.params_joined-requires-clause-kinds
 params_joined-requires-clause-kinds c =
     let is : c.as_slice.result.now ≡ c.self.inside.lists.value.params = search rules in
     subst (All (λ (p : KnownParam). KindAscends (kind_known p.kind))) (sym is)
-    (All-from_map (λ (e : ℕ × ParamKind). KindAscends e.1) (λ (p : KnownParam). (p.number, kind_known p.kind)) c.self.inside.lists.value.params c.self.invariant.returns)
+    (All-from_map (λ (e : ℕ × ParamKind). KindAscends e.1) (λ (p : KnownParam). (p.number, kind_known p.kind))
+    c.self.inside.lists.value.params c.self.invariant.returns)
 
 pub units_joined-requires-clause-units : goal.units_joined-requires-clause-units
 units_joined-requires-clause-units c = amounts_ascend c.as_slice-3.result.now c.self.inside.lists.value.units (search rules) c.self.invariant.units

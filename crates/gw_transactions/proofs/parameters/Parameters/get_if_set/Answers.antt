@@ -10,7 +10,8 @@ use Rattle.gw_transactions.proofs.parameters.Parameters.get_if_set.Goals.{Else-i
 
 pub returns-then-not-has_slot : goal.returns-then-not-has_slot
 returns-then-not-has_slot c =
-    sym (without_slot c.self.inside.mask c.args.number c.self.inside.slots.items (search rules)) ∙ ap (λ (v : Numbered). at None v.values c.args.number) c.self.view_is
+    sym (without_slot c.self.inside.mask c.args.number c.self.inside.slots.items (search rules))
+    ∙ ap (λ (v : Numbered). at None v.values c.args.number) c.self.view_is
 
 pub returns-then-is_set : goal.returns-then-is_set
 returns-then-is_set c =
@@ -28,5 +29,6 @@ some c = search rules
 pub returns-else-is_set : goal.returns-else-is_set
 returns-else-is_set c =
     let place = c.args.number - 1 in
-    sym (without_bit c.self.inside.mask c.args.number c.self.inside.slots.items (some c) (λ one. c.if-is_set.false (and_mask (c.self.inside.mask / 2 ^ place) 1 ∙ one)))
+    sym (without_bit c.self.inside.mask c.args.number c.self.inside.slots.items (some c)
+    (λ one. c.if-is_set.false (and_mask (c.self.inside.mask / 2 ^ place) 1 ∙ one)))
     ∙ ap (λ (v : Numbered). at None v.values c.args.number) c.self.view_is

@@ -8,5 +8,6 @@ use Rattle.gw_transactions.proofs.parameters.Parameters.get_or_zero.Goals as goa
 pub returns : goal.returns
 returns c =
     let few = ap (λ (v : Numbered). v.last) c.self.view_is in
-    zero_or_value c.self.inside.mask c.args.number c.self.inside.slots.items _ c.requires.0 (omega (arith, few, c.requires.1)) c.self.invariant.unset (search rules)
+    zero_or_value c.self.inside.mask c.args.number c.self.inside.slots.items _ c.requires.0 (omega (arith, few, c.requires.1))
+    c.self.invariant.unset (search rules)
     ∙ ap (λ (v : Numbered). unwrap_or (at None v.values c.args.number) (pos 0)) c.self.view_is

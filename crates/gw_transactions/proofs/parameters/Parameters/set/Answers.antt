@@ -27,7 +27,8 @@ returns-clause-values c =
     set-number c.self.inside.mask _ c.args.number (to_z w64 (of_z w64 c.args.value)) c.self.inside.slots.items c.requires.0 (omega (arith, last, c.requires.1))
     (bit_at_set_same w64 c.self.inside.mask (c.args.number - 1) within)
     (bit_at_set_other w64 c.self.inside.mask (c.args.number - 1) within)
-    ∙ ap (λ (v : ℤ). put None (None ∷ shown_from 0 c.self.inside.mask c.self.inside.slots.items) c.args.number (Some v)) (to_z-of_z w64 c.args.value c.ranges.value)
+    ∙ ap (λ (v : ℤ). put None (None ∷ shown_from 0 c.self.inside.mask c.self.inside.slots.items) c.args.number (Some v))
+    (to_z-of_z w64 c.args.value c.ranges.value)
     ∙ ap (λ (v : Numbered). put None v.values c.args.number (Some c.args.value)) c.self.view_is
 
 pub returns-clause-last : goal.returns-clause-last

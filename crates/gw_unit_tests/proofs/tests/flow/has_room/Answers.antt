@@ -20,6 +20,7 @@ returns-then-is_empty c =
     let none : length c.as_slice.result.now ≡ 0 = search (rules, c.is_empty.ensures, c.if-is_empty.true) in
     let is : c.args.state.now.parameters ≡ [] = rw (← c.parts-parts.ensures.value, ← c.as_slice.ensures) (nil_from_length c.as_slice.result.now none) in
     λ room rows. record {
-      amounts = λ e. amounts_have_room c.args.state.now.units (rw (← c.parts-parts.ensures.value, ← c.as_slice-then-is_empty.ensures) (c.have_room.ensures room)) e;
+      amounts = λ e. amounts_have_room c.args.state.now.units
+          (rw (← c.parts-parts.ensures.value, ← c.as_slice-then-is_empty.ensures) (c.have_room.ensures room)) e;
       returns = none_returns rows c.args.state.now.parameters is;
     }

@@ -7,8 +7,16 @@ use Rattle.gw_user_chains.proofs.user_chains.UserChains.members.Goals as goal
 
 pub returns-clause-value : goal.returns-clause-value
 returns-clause-value c =
-    rw (← c.self.view_is) (c.len.ensures ∙ c.index.result.now.ok.0 ∙ ap length (sym (here (deque_items {X = Tx} {Z = Global}) [] _ _ _ (chain_of _ _ _ _ (ap (λ w. w.lists) c.self.view_is) c.requires c.index.ensures))))
+    rw (← c.self.view_is) (c.len.ensures ∙ c.index.result.now.ok.0
+    ∙ ap length (sym (here (deque_items {X = Tx} {Z = Global}) [] _ _ _ (chain_of _ _ _ _ (ap (λ w. w.lists) c.self.view_is) c.requires c.index.ensures))))
 
 pub returns-clause-few : goal.returns-clause-few
 returns-clause-few c =
-    omega (arith, c.len.ensures, c.index.result.now.ok.0, at_most_total (deque_items {X = Tx} {Z = Global}) _ _ _ (chain_of _ _ _ _ (ap (λ w. w.lists) c.self.view_is) c.requires c.index.ensures), c.self.invariant)
+    omega (
+      arith,
+      c.len.ensures,
+      c.index.result.now.ok.0,
+      at_most_total (deque_items {X = Tx} {Z = Global}) _ _ _
+          (chain_of _ _ _ _ (ap (λ w. w.lists) c.self.view_is) c.requires c.index.ensures),
+      c.self.invariant,
+    )
