@@ -1,17 +1,14 @@
 //! What comment lines of a model ask for.
 
-ghost use Rattle.std.specs.Prelude.{◌≡◌, ◌≤◌, ◌<◌, ◌-◌, ◌^◌, Some, IfOk, IfSome};
-ghost use Rattle.std.proofs.Props.{props};
+ghost use Rattle.std.specs.Prelude.{◌≡◌, ◌≤◌, ◌<◌, ◌+◌, ◌-◌, ◌^◌, IfOk};
+ghost use Rattle.gw_experiment.specs.Answers.{Answers, IsDraftOf, lent_texts, view_of_draft};
+ghost use Rattle.gw_experiment.specs.Experiments as model;
 
+use crate::draft::{Draft, Refused};
 use crate::fault::{ExperimentFault, NoExperiment, no_experiment};
-use crate::words::{behind_mark, number_in, words_in};
-use gw_object::Memory;
-use gw_points::parameter_in;
+use crate::steps::add_line;
 use gw_text_tokens::lines::lines_of;
 use std::alloc::Global;
-
-/// The most runs of a point.
-const MOST_RUNS: u64 = 512;
 
 /// What comment lines of a model ask for.
 #[derive(Debug, Drop)]
@@ -26,156 +23,11 @@ pub struct Experiment {
     pub from: u64,
 }
 
-/// What was read so far; a number is none until its line was there.
-#[derive(Drop)]
-struct Draft {
-    parameters: Vec<Vec<u8>>,
-    runs: Option<u64>,
-    count: Option<u64>,
-    from: Option<u64>,
-    ghost few: { IfSome runs (λ n. (1 ≤ n) × (n ≤ 512)) } by { Prim.hlevel props },
-}
-
-/// Why a line isn't taken.
-#[derive(Drop)]
-enum Refused {
-    Fault(ExperimentFault),
-    Memory,
-}
-
-/// A name and its numbers as one word, `NURSES=2,3`.
-fn joined(alloc: Global, name: &[u8], numbers: &[&[u8]]) -> Result<Vec<u8>, Memory> {
-    let mut word = Vec::new(alloc);
-    word.extend_from_slice(name)?;
-    let mut sign = b'=';
-    for number in numbers {
-        word.push(sign)?;
-        word.extend_from_slice(number)?;
-        sign = b',';
-    }
-    Ok(word)
-}
-
-/// Whether each number is greater than the one before.
-fn rise(values: &[i64]) -> bool {
-    for i in 1..values.len() {
-        if values[i - 1] >= values[i] {
-            return false;
-        }
-    }
-    true
-}
-
-/// Whether a word is a name, `=` and numbers that rise.
-fn is_rising(alloc: Global, word: &[u8]) -> Result<bool, Memory> {
-    match parameter_in(alloc, word) {
-        Ok(parameter) => Ok(rise(&parameter.values)),
-        Err(gw_points::NoPoint::Refused(_)) => Ok(false),
-        Err(gw_points::NoPoint::Memory) => Err(Memory),
-    }
-}
-
-/// The word of a name and its numbers, if they rise.
-fn parameter_of(alloc: Global, name: &[u8], numbers: &[&[u8]]) -> Result<Option<Vec<u8>>, Memory> {
-    if numbers.is_empty() || name.iter().any(|byte| *byte == b'=') {
-        return Ok(None);
-    }
-    let word = joined(alloc, name, numbers)?;
-    if is_rising(alloc, &word)? {
-        Ok(Some(word))
-    } else {
-        Ok(None)
-    }
-}
-
-/// A name and its numbers, with those that were there.
-fn add_parameter(
-    alloc: Global,
-    draft: &mut Draft,
-    name: &[u8],
-    numbers: &[&[u8]],
-) -> Result<(), Refused> {
-    if draft.parameters.len() >= 2 {
-        return Err(Refused::Fault(ExperimentFault::Names));
-    }
-    match parameter_of(alloc, name, numbers) {
-        Ok(Some(word)) => match draft.parameters.push(word) {
-            Ok(()) => Ok(()),
-            Err(_) => Err(Refused::Memory),
-        },
-        Ok(None) => Err(Refused::Fault(ExperimentFault::Numbers)),
-        Err(Memory) => Err(Refused::Memory),
-    }
-}
-
-/// The one number of these words, or a refusal.
-fn one_number(words: &[&[u8]], fault: ExperimentFault) -> Result<u64, Refused> {
-    match words {
-        [word] => match number_in(word) {
-            Some(number) => Ok(number),
-            None => Err(Refused::Fault(fault)),
-        },
-        _ => Err(Refused::Fault(fault)),
-    }
-}
-
-/// A number that is said once, where this was said before.
-fn once(before: Option<u64>, number: u64) -> Result<Option<u64>, Refused>
-    ensures { IfOk result (λ said. said ≡ Some number) }
-{
-    match before {
-        Some(_) => Err(Refused::Fault(ExperimentFault::Twice)),
-        None => Ok(Some(number)),
-    }
-}
-
-/// How many runs each point has.
-fn set_runs(draft: &mut Draft, words: &[&[u8]]) -> Result<(), Refused> {
-    let runs = one_number(words, ExperimentFault::Runs)?;
-    if runs < 1 || runs > MOST_RUNS {
-        return Err(Refused::Fault(ExperimentFault::Runs));
-    }
-    draft.runs = once(draft.runs, runs)?;
-    Ok(())
-}
-
-/// The termination count.
-fn set_count(draft: &mut Draft, words: &[&[u8]]) -> Result<(), Refused> {
-    draft.count = once(draft.count, one_number(words, ExperimentFault::Number)?)?;
-    Ok(())
-}
-
-/// Where the window begins.
-fn set_from(draft: &mut Draft, words: &[&[u8]]) -> Result<(), Refused> {
-    draft.from = once(draft.from, one_number(words, ExperimentFault::Number)?)?;
-    Ok(())
-}
-
-/// What the words of a line ask for, with what was asked for before.
-fn add_words(alloc: Global, draft: &mut Draft, words: &[&[u8]]) -> Result<(), Refused> {
-    match words {
-        [b"vary", name, numbers @ ..] => add_parameter(alloc, draft, name, numbers),
-        [b"vary"] => Err(Refused::Fault(ExperimentFault::Numbers)),
-        [b"runs", rest @ ..] => set_runs(draft, rest),
-        [b"count", rest @ ..] => set_count(draft, rest),
-        [b"from", rest @ ..] => set_from(draft, rest),
-        _ => Err(Refused::Fault(ExperimentFault::Word)),
-    }
-}
-
-/// What a line asks for, if it begins with `*!`.
-fn add_line(alloc: Global, draft: &mut Draft, line: &[u8]) -> Result<(), Refused> {
-    match behind_mark(line) {
-        Some(text) => match words_in(alloc, text) {
-            Ok(words) => add_words(alloc, draft, &words),
-            Err(Memory) => Err(Refused::Memory),
-        },
-        None => Ok(()),
-    }
-}
-
 /// What lines ask for.
-fn draft_of(alloc: Global, lines: &[&[u8]]) -> Result<Draft, NoExperiment> {
+#[tactic(auto, unfolding(crate::specs::Experiments::experiment_from))]
+fn draft_of(alloc: Global, lines: &[&[u8]]) -> Result<Draft, NoExperiment>
+    ensures { IsDraftOf (lent_texts lines.now) result }
+{
     let mut draft = Draft {
         parameters: Vec::new(alloc),
         runs: None,
@@ -195,7 +47,8 @@ fn draft_of(alloc: Global, lines: &[&[u8]]) -> Result<Draft, NoExperiment> {
 /// What a draft asks for, if it says how many runs there are.
 fn experiment_of(alloc: Global, draft: Draft, lines: usize) -> Result<Experiment, NoExperiment>
     requires { lines < 2 ^ 64 - 1 }
-    ensures { IfOk result (λ e. (1 ≤ e.runs) × (e.runs ≤ 512)) }
+    ensures asked { Answers (model.experiment_of (lines + 1) (view_of_draft draft)) result }
+    ensures runs { IfOk result (λ e. (1 ≤ e.runs) × (e.runs ≤ 512)) }
 {
     let Draft {
         parameters,
@@ -223,7 +76,8 @@ fn experiment_of(alloc: Global, draft: Draft, lines: usize) -> Result<Experiment
 ///
 /// Another line that begins so is refused (85 Experiment), and a text without `*! runs`, at the line behind its last.
 pub fn experiment_in(alloc: Global, text: &[u8]) -> Result<Experiment, NoExperiment>
-    ensures { IfOk result (λ e. (1 ≤ e.runs) × (e.runs ≤ 512)) }
+    ensures asked { Answers (model.experiment_in text.now) result }
+    ensures runs { IfOk result (λ e. (1 ≤ e.runs) × (e.runs ≤ 512)) }
 {
     match lines_of(alloc, text) {
         Ok(lines) => {

@@ -1,5 +1,8 @@
 //! Why a model's comment lines ask for no experiment.
 
+ghost use Rattle.std.specs.Prelude.{◌≡◌, ◌++◌, OnOk, IfOk};
+ghost use Rattle.gw_experiment.specs.Refusals as model;
+
 use gw_object::Memory;
 use itoa::Buffer;
 use std::alloc::Global;
@@ -36,7 +39,9 @@ pub enum NoExperiment {
 }
 
 /// Why a line is refused, in words.
-fn reason_of(fault: ExperimentFault) -> &'static str {
+fn reason_of(fault: ExperimentFault) -> &'static str
+    ensures { result.now ≡ model.reason_of fault }
+{
     match fault {
         ExperimentFault::Word => "behind *! stands vary, runs, count or from",
         ExperimentFault::Numbers =>
@@ -50,24 +55,46 @@ fn reason_of(fault: ExperimentFault) -> &'static str {
 }
 
 /// A text behind others.
-fn put(out: &mut Vec<u8>, text: &str) -> Result<(), Memory> {
+fn put(out: &mut Vec<u8>, text: &str) -> Result<(), Memory>
+    ensures { OnOk result (out.new.items ≡ out.old.items ++ text.now) }
+{
     out.extend_from_slice(text.as_bytes())
 }
 
-/// The refusal of a line by its number, from 1, as it is printed: its code and name, the number, and why.
-pub fn refusal_of(alloc: Global, line: usize, fault: ExperimentFault) -> Result<Vec<u8>, Memory> {
+/// The code and its name, and the number of the line.
+#[tactic(auto, unfolding(crate::specs::Refusals::head))]
+fn put_head(out: &mut Vec<u8>, line: usize) -> Result<(), Memory>
+    ensures { OnOk result (out.new.items ≡ out.old.items ++ model.head line) }
+{
     let mut buffer = Buffer::new();
+    put(out, "refused 85 Experiment at line ")?;
+    put(out, buffer.format(line))
+}
+
+/// Why, on a line of its own.
+#[tactic(auto, unfolding(crate::specs::Refusals::reason))]
+fn put_reason(out: &mut Vec<u8>, fault: ExperimentFault) -> Result<(), Memory>
+    ensures { OnOk result (out.new.items ≡ out.old.items ++ model.reason fault) }
+{
+    put(out, "\nwrong: ")?;
+    put(out, reason_of(fault))?;
+    put(out, "\n")
+}
+
+/// The refusal of a line by its number, from 1, as it is printed: its code and name, the number, and why.
+pub fn refusal_of(alloc: Global, line: usize, fault: ExperimentFault) -> Result<Vec<u8>, Memory>
+    ensures { IfOk result (λ text. text.items ≡ model.refusal_text line fault) }
+{
     let mut text = Vec::new(alloc);
-    put(&mut text, "refused 85 Experiment at line ")?;
-    put(&mut text, buffer.format(line))?;
-    put(&mut text, "\nwrong: ")?;
-    put(&mut text, reason_of(fault))?;
-    put(&mut text, "\n")?;
+    put_head(&mut text, line)?;
+    put_reason(&mut text, fault)?;
     Ok(text)
 }
 
 /// The same, as the reason why there is no experiment; or want of memory.
-pub(crate) fn no_experiment(alloc: Global, line: usize, fault: ExperimentFault) -> NoExperiment {
+pub(crate) fn no_experiment(alloc: Global, line: usize, fault: ExperimentFault) -> NoExperiment
+    ensures { model.Tells line fault result }
+{
     match refusal_of(alloc, line, fault) {
         Ok(text) => NoExperiment::Refused(text),
         Err(Memory) => NoExperiment::Memory,

@@ -1,9 +1,10 @@
 -- The rows of a share of a model's experiment.
-use Rattle.std.specs.Prelude.{◌≡◌, ◌⊎◌, ℕ, ◌+◌, ◌*◌, ◌==◌, nat_lt, List, [], ◌∷◌, length, map, MatchBool, Result, OnOk, Vec, if◌then◌else◌}
+use Rattle.std.specs.Prelude.{◌≡◌, ◌⊎◌, ℕ, ◌+◌, ◌*◌, ◌==◌, nat_lt, List, [], ◌∷◌, length, MatchBool, Result, Ok, Err, OnOk, Vec}
+use Rattle.std.specs.Prelude.{if◌then◌else◌}
 use Rattle.std.specs.Global.{Global}
 use Rattle.gw_answers.specs.Status.{end_status, refusal_status}
+use Rattle.gw_experiment.specs.Experiments.{Experiment, experiment_in}
 use Rattle.gw_experiment.specs.Shares.{share_of, run_at}
-use Rattle.gw_experiment.specs.declared.experiment.Experiment.{Experiment}
 use Rattle.gw_experiment.specs.declared.shares.Share.{Share}
 use Rattle.gw_alternatives.specs.Alternatives.{ArePoints}
 use Rattle.gw_alternatives.specs.declared.alternative.Alternative.{Alternative}
@@ -69,14 +70,10 @@ AreExperimentRows model experiment number shares points text =
 abbrev pub ArePartRows : List ℕ → Experiment → Part → List Alternative → List ℕ → Type 0
 ArePartRows model experiment part points text = AreExperimentRows model experiment part.number part.shares points text
 
--- the words as `NURSES=2,3` of an experiment
-abbrev pub words_of : Experiment → List (List ℕ)
-words_of experiment = map (λ w. w.items) experiment.parameters.items
-
 -- the rows of a share of an experiment, by its number, of so many
 pub record IsShareOf (text : List ℕ) (experiment : Experiment) (number shares : ℕ) (out : List ℕ) : Type 0 where
   pub points : List Alternative
-  pub asked : ArePoints text (words_of experiment) experiment.count points
+  pub asked : ArePoints text experiment.parameters experiment.count points
   pub rows : AreExperimentRows (digest text) experiment number shares points out
 
 -- a refusal as a row
@@ -88,8 +85,15 @@ abbrev pub IsShareOr : List ℕ → Experiment → ℕ → ℕ → List ℕ → 
 IsShareOr text experiment number shares out status =
     ((status ≡ end_status) × IsShareOf text experiment number shares out) ⊎ IsRefusedRow text out status
 
--- what is answered: those of an experiment, or a refusal
+-- the refusal of what a text's lines ask for, as a row
+abbrev pub IsRefusedExperiment : List ℕ → List ℕ → ℕ → Type 0
+IsRefusedExperiment text out status =
+    (why : List ℕ) × (experiment_in text ≡ Err why) × (status ≡ refusal_status)
+    × (out ≡ refusal_rows (digest text) why)
+
+-- what is answered: those of the experiment that a text's lines ask for, or its refusal
 abbrev pub IsShareAnswer : List ℕ → ℕ → ℕ → List ℕ → ℕ → Type 0
 IsShareAnswer text number shares out status =
-    ((experiment : Experiment) × IsShareOr text experiment number shares out status)
-    ⊎ IsRefusedRow text out status
+    ((experiment : Experiment) × (experiment_in text ≡ Ok experiment)
+    × IsShareOr text experiment number shares out status)
+    ⊎ IsRefusedExperiment text out status

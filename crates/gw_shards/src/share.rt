@@ -1,8 +1,9 @@
 //! The rows of a share of a model's experiment.
 
-ghost use Rattle.std.specs.Prelude.{◌≡◌, ◌≤◌, ◌<◌, ◌++◌, [], length, map, IfOk, OnOk};
+ghost use Rattle.std.specs.Prelude.{◌≡◌, ◌≤◌, ◌<◌, ◌++◌, [], length, IfOk, OnOk};
 ghost use Rattle.gw_answers.specs.Requests.{AnswersAs};
 ghost use Rattle.gw_answers.specs.Status.{end_status};
+ghost use Rattle.gw_experiment.specs.Answers.{lent_texts, view as asked};
 ghost use Rattle.gw_shards.specs.Rows.{view, digest as digest_text};
 ghost use Rattle.gw_shards.specs.Shares as model;
 
@@ -19,7 +20,7 @@ use std::thread::Threads;
 
 /// The words as `NURSES=2,3` of an experiment.
 fn words_of(alloc: Global, experiment: &Experiment) -> Result<Vec<&[u8]>, Memory>
-    ensures { IfOk result (λ words. map (λ w. w.now) words.items ≡ model.words_of experiment.now) }
+    ensures { IfOk result (λ words. lent_texts words.items ≡ (asked experiment.now).parameters) }
 {
     let mut words = Vec::new(alloc);
     for i in 0..experiment.parameters.len() {
@@ -133,7 +134,7 @@ fn share_of_points<T: Threads + Sync + Eprint>(
     requires few { (experiment.now.runs ≤ 512) × (length points.now ≤ 64) }
     ensures status { IfOk result (λ a. a.status ≡ end_status) }
     ensures rows { IfOk result (λ a.
-        model.ArePartRows digest.now experiment.now part points.now a.text.items) }
+        model.ArePartRows digest.now (asked experiment.now) part points.now a.text.items) }
 {
     let jobs = points.len() as u64 * u64::from(experiment.runs);
     let common = Common {
@@ -172,7 +173,7 @@ fn share_of<T: Threads + Sync + Eprint>(
     requires few { experiment.now.runs ≤ 512 }
     requires digest { digest.now ≡ digest_text text.now }
     ensures { AnswersAs result
-        (model.IsShareOr text.now experiment.now part.number part.shares) }
+        (model.IsShareOr text.now (asked experiment.now) part.number part.shares) }
 {
     let words = words_of(alloc, experiment)?;
     match points_by_words(alloc, text, &words, experiment.count) {

@@ -143,8 +143,8 @@ rows_ends d bytes text status (inl h) = inl h.0
 rows_ends d bytes text status (inr h) = inr h.0
 
 pub share_ends : (shard : Shard) → Ends (of_front (share_asked shard))
-share_ends shard bytes text status (inl h) = of_share _ h.0 shard.number shard.shares text status h.1
-share_ends shard bytes text status (inr h) = inr h.0
+share_ends shard bytes text status (inl h) = of_share _ h.0 shard.number shard.shares text status h.2
+share_ends shard bytes text status (inr h) = inr h.2
 
 pub object_ends : (d : LoneDemand) → Ends (of_front (object_asked d))
 object_ends d bytes text status (inl h) = first_object h.0 d.run text status h.2

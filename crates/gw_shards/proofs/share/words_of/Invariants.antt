@@ -1,8 +1,8 @@
 -- the words so far, and those that are left, are all
-use Rattle.std.proofs.Common.{◌≡◌, ◌++◌, drop, map}
-use Rattle.gw_shards.specs.Shares as model
+use Rattle.std.proofs.Common.{◌≡◌, ◌++◌, drop}
+use Rattle.gw_experiment.specs.Answers.{lent_texts, texts}
 use Rattle.gw_shards.proofs.share.words_of.Given as goal
 
 abbrev pub invariant-loop-i : goal.invariant-loop-i
 invariant-loop-i l =
-    map (λ w. w.now) l.words.items ++ map (λ w. w.items) (drop l.i l.experiment.parameters.items) ≡ model.words_of l.experiment
+    lent_texts l.words.items ++ texts (drop l.i l.experiment.parameters.items) ≡ texts l.experiment.parameters.items

@@ -1,0 +1,34 @@
+-- The refusal of a line, as it is printed.
+use Rattle.std.specs.Prelude.{◌≡◌, ℕ, List, ◌++◌, codes}
+use Rattle.std.specs.Fmt.{decimal}
+use Rattle.gw_experiment.specs.declared.fault.ExperimentFault.{ExperimentFault}
+use Rattle.gw_experiment.specs.declared.fault.ExperimentFault.TheVariants as fault
+use Rattle.gw_experiment.specs.declared.fault.NoExperiment.{NoExperiment}
+use Rattle.gw_experiment.specs.declared.fault.NoExperiment.TheVariants.{Refused, Memory}
+
+-- why, in words
+abbrev pub reason_of : ExperimentFault → List ℕ
+reason_of fault.Word = codes "behind *! stands vary, runs, count or from"
+reason_of fault.Numbers = codes "vary has a name and whole numbers behind it, each greater than the one before"
+reason_of fault.Names = codes "at most two lines are *! vary"
+reason_of fault.Runs = codes "runs has one number, from 1 to 512"
+reason_of fault.Number = codes "count and from have one number each, below 2^64"
+reason_of fault.Twice = codes "another line says this too"
+reason_of fault.None = codes "no line is *! runs, with how many runs each point has"
+
+-- the code and its name, and the line's number
+unfoldable pub head : ℕ → List ℕ
+head line = codes "refused 85 Experiment at line " ++ decimal line
+
+-- why, on a line of its own
+unfoldable pub reason : ExperimentFault → List ℕ
+reason fault = codes "\nwrong: " ++ reason_of fault ++ codes "\n"
+
+-- the refusal of a line by its number, from 1: both
+abbrev pub refusal_text : ℕ → ExperimentFault → List ℕ
+refusal_text line fault = head line ++ reason fault
+
+-- there is no experiment for this reason, or for want of memory
+abbrev pub Tells : ℕ → ExperimentFault → NoExperiment → Type 0
+Tells line fault (Refused text) = text.items ≡ refusal_text line fault
+Tells line fault Memory = Unit {0}
