@@ -1,2 +1,13 @@
+pub mod Decimals
+pub mod EndWords
+pub mod Texts
+pub mod RowTexts
+pub mod PlainFields
+pub mod Lines
+pub mod RowFields
+pub mod AmountFields
+pub mod Parting
+pub mod StreamFields
 pub mod Following
 pub mod Telling
+pub mod HeaderTexts

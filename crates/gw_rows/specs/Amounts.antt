@@ -17,9 +17,13 @@ parts_for m =
 unfoldable pub fraction : ℕ → List ℕ
 fraction m = if m == 0 then [] else codes "." ++ tail (parts_for m + m / (1000000 / parts_for m))
 
--- an amount of millionths, exactly: no zero ends what stands behind the point, and there is no point where nothing does
+-- a size of millionths, exactly: no zero ends what stands behind the point, and there is no point where nothing does
+abbrev pub size_text : ℕ → List ℕ
+size_text n = decimal (n / 1000000) ++ fraction (n % 1000000)
+
+-- an amount, with its sign
 unfoldable pub amount : ℤ → List ℕ
-amount z = (sign_of (int_lt z (pos 0)) ++ decimal (unsigned_abs z / 1000000)) ++ fraction (unsigned_abs z % 1000000)
+amount z = sign_of (int_lt z (pos 0)) ++ size_text (unsigned_abs z)
 
 -- its field: empty where there is none
 abbrev pub amount_field : Option ℤ → List ℕ

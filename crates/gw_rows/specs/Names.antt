@@ -1,5 +1,7 @@
 -- What the fields of rows are called.
-use Rattle.std.specs.Prelude.{◌&&◌, ◌||◌, ℕ, ◌-◌, nat_le, List, [], ◌∷◌, ◌++◌, length, take, drop, map, codes, Bool, not, if◌then◌else◌}
+use Rattle.std.specs.Prelude.{◌&&◌, ◌||◌, ◌==◌, ℕ, ◌-◌, nat_le, List, [], ◌∷◌, ◌++◌, length, take, drop}
+use Rattle.std.specs.Prelude.{map, codes, Bool, not, if◌then◌else◌}
+use Rattle.std.specs.List.{slice_split}
 use Rattle.std.specs.Str.{bytes_eq}
 use Rattle.csv.specs.Writing.{row_text, default_writer}
 use Rattle.gw_figures.specs.Labels.{Label}
@@ -17,8 +19,11 @@ abbrev pub has_trend : Label → Bool
 has_trend label = label.average || label.content
 
 -- what the change of an average or a content is called
+abbrev pub trend_front : List ℕ
+trend_front = codes "TREND "
+
 abbrev pub trend_name : List ℕ → List ℕ
-trend_name name = codes "TREND " ++ name
+trend_name name = trend_front ++ name
 
 -- what the changes of figures are called of which rows tell that
 abbrev pub trend_of : Label → List (List ℕ)
@@ -59,3 +64,12 @@ is_content name = not (is_detail name) && (ends (codes " CONTENT") name || ends 
 abbrev pub label_of_name : List ℕ → Label
 label_of_name name =
     record { name = name; main = not (is_detail name); average = is_average name; content = is_content name }
+
+-- the figures of names, up to the first change
+unfoldable pub labels_named : List (List ℕ) → List Label
+labels_named [] = []
+labels_named (name ∷ names) = if begins trend_front name then [] else label_of_name name ∷ labels_named names
+
+-- the figures of the names of a line's parts between commas, behind those of the other fields
+abbrev pub labels_in : List ℕ → List Label
+labels_in line = labels_named (drop 9 (slice_split (λ b. b == 44) line))

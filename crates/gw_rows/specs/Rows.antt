@@ -1,5 +1,6 @@
 -- Rows: a run, and of what it is one, as a line of CSV.
 use Rattle.std.specs.Prelude.{◌≡◌, ℕ, ◌+◌, ◌==◌, List, [], ◌∷◌, ◌++◌, map, codes, ℤ, Option, Result, OnOk, Vec, if◌then◌else◌}
+use Rattle.std.specs.Borrow.{Bor}
 use Rattle.std.specs.Fmt.{decimal}
 use Rattle.std.specs.Global.{Global}
 use Rattle.csv.specs.Writing.{row_text, default_writer}
@@ -21,6 +22,10 @@ texts fields = map (λ f. f.items) fields
 -- where all went well, fields are added to others
 abbrev pub AddsFields : {E : Type 0} → Result (Unit {0}) E → Vec (Vec ℕ Global) Global → Vec (Vec ℕ Global) Global → List (List ℕ) → Type 0
 AddsFields result old new added = OnOk result (texts new.items ≡ texts old.items ++ added)
+
+-- and those that are lent
+abbrev pub lent_texts : List (Bor (List ℕ)) → List (List ℕ)
+lent_texts fields = map (λ f. f.now) fields
 
 -- how many rows there are in all: empty where that isn't known
 abbrev pub rows_field : ℕ → List ℕ

@@ -1,9 +1,13 @@
 //! Amounts of millionths as decimals.
 
-ghost use Rattle.std.specs.Prelude.{◌≡◌, ◌<◌, ◌≤◌, ◌+◌, ◌/◌, ◌++◌, length, IfOk, OnOk};
+ghost use Rattle.std.specs.Prelude.{◌≡◌, ◌<◌, ◌≤◌, ◌+◌, ◌/◌, ◌%◌, ◌^◌, ◌==◌, ◌++◌, ℕ, ℤ, pos, negsuc, true, false, drop, slice_index, slice_index_or, FitsSigned, IfOk, OnOk};
+ghost use Rattle.std.specs.Int.{w128};
+ghost use Rattle.std.specs.Fmt.{decimal};
 ghost use Rattle.gw_comparison.specs.Amounts.{sign_of as sign, tail};
 ghost use Rattle.gw_rows.specs.Amounts as model;
+ghost use Rattle.gw_rows.specs.Reading.{ReadsAmount};
 
+use crate::parts::{behind_first, split_at_byte};
 use gw_object::Memory;
 use gw_report::text::{put, put_number};
 use itoa::Buffer;
@@ -85,8 +89,10 @@ pub(crate) fn amount_field(alloc: Global, amount: Option<i128>) -> Result<Vec<u8
     }
 }
 
-/// The number that digits spell; other bytes, and digits past 2^128, give another number.
-pub(crate) fn whole_in(digits: &[u8]) -> u128 {
+/// The number of a decimal below 2^128; other bytes, and more digits, give another number.
+pub(crate) fn whole_in(digits: &[u8]) -> u128
+    ensures { (n : ℕ) → n < 2 ^ 128 → digits.now ≡ decimal n → result ≡ n }
+{
     let mut value: u128 = 0;
     for digit in digits {
         value = value
@@ -96,59 +102,87 @@ pub(crate) fn whole_in(digits: &[u8]) -> u128 {
     value
 }
 
+/// The digit at a place; 0 where there is none.
+fn digit_at(digits: &[u8], place: usize) -> u8
+    ensures { result ≡ slice_index_or digits.now place 48 }
+{
+    match digits.get(place) {
+        Some(digit) => *digit,
+        None => b'0',
+    }
+}
+
 /// How many millionths the first six digits behind a point are.
-fn millionths_in(digits: &[u8]) -> u128 {
+fn millionths_in(digits: &[u8]) -> u128
+    ensures { (m : ℕ) → m < 1000000 → digits.now ≡ drop 1 (model.fraction m) → result ≡ m }
+{
     let mut value: u128 = 0;
     for i in 0..6usize {
-        let digit = digits.get(i).copied().unwrap_or(b'0');
         value = value
             .saturating_mul(10)
-            .saturating_add(u128::from(digit.saturating_sub(b'0')));
+            .saturating_add(u128::from(digit_at(digits, i).saturating_sub(b'0')));
     }
     value
 }
 
-/// Where the point stands, or the length.
-fn point_in(field: &[u8]) -> usize
-    ensures { result ≤ length field.now }
-{
-    for place in 0..field.len() {
-        if field[place] == b'.' {
-            return place;
-        }
-    }
-    field.len()
-}
-
 /// How many millionths a decimal without a sign is.
-fn size_in(digits: &[u8]) -> u128 {
-    let place = point_in(digits);
-    let (whole, rest) = digits.split_at(place);
-    let fraction = match rest {
-        [_, fraction @ ..] => fraction,
-        [] => rest,
-    };
+fn size_in(digits: &[u8]) -> u128
+    ensures { (n : ℕ) → n < 2 ^ 128 → digits.now ≡ model.size_text n → result ≡ n }
+{
+    let (whole, fraction) = split_at_byte(digits, b'.');
     whole_in(whole)
         .saturating_mul(1_000_000)
         .saturating_add(millionths_in(fraction))
 }
 
-/// A size as a number, with a sign or none; a size past 2^127 gives another number.
-fn signed(size: u128, is_negative: bool) -> i128 {
-    let size = size.min(i128::MAX as u128) as i128;
-    if is_negative { -size } else { size }
+/// A size as a number, with a sign or none; a size that is too great gives another number.
+fn signed(size: u128, is_negative: bool) -> i128
+    ensures above { (n : ℕ) → n < 2 ^ 127 → size ≡ n → is_negative ≡ false → result ≡ pos n }
+    ensures below { (n : ℕ) → n < 2 ^ 127 → size ≡ n + 1 → is_negative ≡ true → result ≡ negsuc n }
+{
+    match (i128::try_from(size), is_negative) {
+        (Ok(size), false) => size,
+        (Ok(size), true) => -size,
+        (Err(_), false) => i128::MAX,
+        (Err(_), true) => i128::MIN,
+    }
 }
 
-/// The amount that a field tells, if it tells one. A field that isn't the field of any amount gives another's.
-pub(crate) fn amount_in(field: &[u8]) -> Option<i128> {
-    match field {
-        [] => None,
-        [b'-', digits @ ..] => Some(signed(size_in(digits), true)),
-        digits => Some(signed(size_in(digits), false)),
+/// Whether a field begins with a sign.
+fn has_sign(field: &[u8]) -> bool
+    ensures { result ≡ (slice_index field.now 0 == 45) }
+{
+    match field.first() {
+        Some(byte) => *byte == b'-',
+        None => false,
+    }
+}
+
+/// The amount that a field tells. A field that isn't the field of any amount gives another's.
+fn some_amount_in(field: &[u8]) -> i128
+    ensures { (z : ℤ) → FitsSigned w128 z → field.now ≡ model.amount z → result ≡ z }
+{
+    if has_sign(field) {
+        signed(size_in(behind_first(field)), true)
+    } else {
+        signed(size_in(field), false)
+    }
+}
+
+/// The same, if it tells one.
+pub(crate) fn amount_in(field: &[u8]) -> Option<i128>
+    ensures { ReadsAmount field.now result }
+{
+    if field.is_empty() {
+        None
+    } else {
+        Some(some_amount_in(field))
     }
 }
 
 /// The number that a field tells. A field that isn't the field of any number gives another's.
-pub(crate) fn number_in(field: &[u8]) -> u64 {
+pub(crate) fn number_in(field: &[u8]) -> u64
+    ensures { (n : ℕ) → n < 2 ^ 64 → field.now ≡ decimal n → result ≡ n }
+{
     whole_in(field).min(u64::MAX as u128) as u64
 }

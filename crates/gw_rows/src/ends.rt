@@ -1,6 +1,6 @@
 //! The words of the ends of runs.
 
-ghost use Rattle.std.specs.Prelude.{◌≡◌};
+ghost use Rattle.std.specs.Prelude.{◌≡◌, Some};
 ghost use Rattle.gw_report.specs.Report.{status_word as word_of_status};
 ghost use Rattle.gw_scan.specs.declared.sim.Status.TheVariants.{Ended};
 
@@ -27,7 +27,9 @@ pub(crate) fn word_of(end: End) -> &'static str
 }
 
 /// The end of a word, if it is that of one.
-pub(crate) fn end_in(word: &[u8]) -> Option<End> {
+pub(crate) fn end_in(word: &[u8]) -> Option<End>
+    ensures { (end : End) → word.now ≡ word_of_status (Ended end) → result ≡ Some end }
+{
     for end in ENDS {
         if word_of(end).as_bytes() == word {
             return Some(end);

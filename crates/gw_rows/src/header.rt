@@ -1,12 +1,13 @@
 //! The line that says what the fields of rows are.
 
-ghost use Rattle.std.specs.Prelude.{◌≡◌, ◌++◌, map, IfOk, IfSome, OnOk, IsTrue};
+ghost use Rattle.std.specs.Prelude.{◌≡◌, ◌↔◌, ◌++◌, map, IfOk, OnOk, IsTrue};
 ghost use Rattle.gw_figures.specs.Labels.{label_of, labels};
 ghost use Rattle.gw_rows.specs.Names as model;
-ghost use Rattle.gw_rows.specs.Rows.{texts};
-ghost use Rattle.gw_rows.specs.Reading.{IsHeaderOf, IsLine};
+ghost use Rattle.gw_rows.specs.Rows.{lent_texts, texts};
+ghost use Rattle.gw_rows.specs.Reading.{FindsFigures, IsHeaderOf, IsLine};
 
-use crate::record::{copy_of, parts_of, put_owned};
+use crate::parts::parts_of;
+use crate::record::{copy_of, put_owned};
 use gw_figures::Figure;
 use gw_object::Memory;
 use std::alloc::Global;
@@ -106,32 +107,44 @@ pub fn put_header(alloc: Global, out: &mut Vec<u8>, figures: &[Figure]) -> Resul
 }
 
 /// Whether a text begins so.
-fn begins(text: &[u8], front: &[u8]) -> bool {
+fn begins(text: &[u8], front: &[u8]) -> bool
+    ensures { result ≡ model.begins front.now text.now }
+{
     text.len() >= front.len() && text.split_at(front.len()).0 == front
 }
 
 /// Whether a text ends so.
-fn ends(text: &[u8], end: &[u8]) -> bool {
+fn ends(text: &[u8], end: &[u8]) -> bool
+    ensures { result ≡ model.ends end.now text.now }
+{
     text.len() >= end.len() && text.split_at(text.len() - end.len()).1 == end
 }
 
 /// Whether a figure is told only where all are asked for: one of a block, a switch or a user chain.
-fn is_detail(name: &[u8]) -> bool {
+fn is_detail(name: &[u8]) -> bool
+    ensures { result ≡ model.is_detail name.now }
+{
     begins(name, b"BLOCK ") || begins(name, b"SWITCH ") || begins(name, b"CHAIN ")
 }
 
 /// Whether a figure is an average: over time, over units or over values.
-fn is_average(name: &[u8]) -> bool {
+fn is_average(name: &[u8]) -> bool
+    ensures { result ≡ model.is_average name.now }
+{
     ends(name, b" UTIL") || ends(name, b" TIME") || ends(name, b" AVG") || ends(name, b" MEAN")
 }
 
 /// Whether a figure is how many are there at a moment: in a queue or a storage, or waiting for a facility or a storage.
-fn is_content(name: &[u8]) -> bool {
+fn is_content(name: &[u8]) -> bool
+    ensures { result ≡ model.is_content name.now }
+{
     !is_detail(name) && (ends(name, b" CONTENT") || ends(name, b" WAIT"))
 }
 
 /// The figure of a name.
-fn figure_of(alloc: Global, name: &[u8]) -> Result<Figure, Memory> {
+fn figure_of(alloc: Global, name: &[u8]) -> Result<Figure, Memory>
+    ensures { IfOk result (λ figure. label_of figure ≡ model.label_of_name name.now) }
+{
     Ok(Figure {
         name: copy_of(alloc, name)?,
         main: !is_detail(name),
@@ -141,20 +154,25 @@ fn figure_of(alloc: Global, name: &[u8]) -> Result<Figure, Memory> {
 }
 
 /// The figures of names, up to the first change.
-fn named_figures(alloc: Global, names: &[&[u8]]) -> Result<Vec<Figure>, Memory> {
+#[tactic(auto, unfolding(crate::specs::Names::labels_named))]
+fn named_figures(alloc: Global, names: &[&[u8]]) -> Result<Vec<Figure>, Memory>
+    ensures { IfOk result (λ figures. labels figures.items ≡ model.labels_named (lent_texts names.now)) }
+{
     let mut figures = Vec::new(alloc);
-    for name in names {
-        if begins(name, TREND) {
+    for i in 0..names.len() {
+        if begins(names[i], TREND) {
             return Ok(figures);
         }
-        figures.push(figure_of(alloc, name)?)?;
+        figures.push(figure_of(alloc, names[i])?)?;
     }
     Ok(figures)
 }
 
 /// The figures that a line names, where it is the line before rows of them.
-fn named_in(alloc: Global, line: &[u8]) -> Result<Vec<Figure>, Memory> {
-    let parts = parts_of(alloc, line)?;
+fn named_in(alloc: Global, line: &[u8]) -> Result<Vec<Figure>, Memory>
+    ensures { IfOk result (λ figures. labels figures.items ≡ model.labels_in line.now) }
+{
+    let parts = parts_of(alloc, line, b',')?;
     if parts.len() < FIXED {
         return Ok(Vec::new(alloc));
     }
@@ -164,16 +182,16 @@ fn named_in(alloc: Global, line: &[u8]) -> Result<Vec<Figure>, Memory> {
 
 /// Whether a line is the one before rows of these figures.
 fn is_header_of(alloc: Global, line: &[u8], figures: &[Figure]) -> Result<bool, Memory>
-    ensures { IfOk result (λ is. IsTrue is → IsHeaderOf line.now figures.now) }
+    ensures { IfOk result (λ is. IsTrue is ↔ IsHeaderOf line.now figures.now) }
 {
     let mut again = Vec::new(alloc);
     put_header(alloc, &mut again, figures)?;
     Ok(is_line(line, &again))
 }
 
-/// The figures of rows behind a line without its line feed, if it is the line before rows.
+/// The figures of rows behind a line without its line feed, if it is the line before rows of figures that are those of their names.
 pub fn figures_in(alloc: Global, line: &[u8]) -> Result<Option<Vec<Figure>>, Memory>
-    ensures { IfOk result (λ found. IfSome found (λ figures. IsHeaderOf line.now figures.items)) }
+    ensures { IfOk result (FindsFigures line.now) }
 {
     if !begins(line, b"model,rows,") {
         return Ok(None);
@@ -188,7 +206,7 @@ pub fn figures_in(alloc: Global, line: &[u8]) -> Result<Option<Vec<Figure>>, Mem
 
 /// Whether a text is a line and its line feed.
 pub(crate) fn is_line(line: &[u8], text: &[u8]) -> bool
-    ensures { IsTrue result → IsLine line.now text.now }
+    ensures { IsTrue result ↔ IsLine line.now text.now }
 {
     let (front, end) = text.split_at(text.len().saturating_sub(1));
     front == line && end == b"\n".as_slice()

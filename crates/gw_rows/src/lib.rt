@@ -11,6 +11,7 @@ mod header;
 pub mod laws;
 mod origin;
 mod overdraws;
+mod parts;
 mod reading;
 mod record;
 mod refusal;

@@ -2,9 +2,12 @@
 //! them, and nothing where there are none.
 
 ghost use Rattle.std.specs.Prelude.{◌≡◌, ◌++◌, IfOk, OnOk};
+ghost use Rattle.gw_rows.specs.Reading.{IsStreamInRange, ReadsStreamField, ReadsStreams};
 ghost use Rattle.gw_rows.specs.Rows as model;
+ghost use Rattle.gw_rows.specs.Rows.{lent_texts};
 
 use crate::amounts::{number_in, whole_in};
+use crate::parts::{behind_first, parts_of, split_at_byte};
 use gw_figures::Overdraw;
 use gw_object::Memory;
 use gw_report::text::{put, put_number};
@@ -40,43 +43,37 @@ pub(crate) fn overdraws_field(alloc: Global, overdraws: &[Overdraw]) -> Result<V
     Ok(field)
 }
 
-/// What stands before and behind the first byte of its kind, or all and nothing.
-fn split_at_byte(text: &[u8], byte: u8) -> (&[u8], &[u8]) {
-    match text.iter().position(|other| *other == byte) {
-        Some(place) => {
-            let (front, rest) = text.split_at(place);
-            match rest {
-                [_, rest @ ..] => (front, rest),
-                [] => (front, rest),
-            }
-        }
-        None => (text, &[]),
-    }
-}
-
 /// The stream that a text tells. One that isn't the text of any stream gives another's.
-fn overdraw_in(text: &[u8]) -> Overdraw {
+fn overdraw_in(text: &[u8]) -> Overdraw
+    ensures { (o : Overdraw) → IsStreamInRange o → text.now ≡ model.overdraw_text o → result ≡ o }
+{
     let (stream, numbers) = split_at_byte(text, b'=');
     let (most, own) = split_at_byte(numbers, b'/');
-    let digits = match stream {
-        [b'R', b'N', digits @ ..] => digits,
-        _ => &[],
-    };
     Overdraw {
-        stream: number_in(digits).min(u64::from(u8::MAX)) as u8,
+        stream: number_in(behind_first(behind_first(stream))).min(u64::from(u8::MAX)) as u8,
         most: whole_in(most),
         own: number_in(own),
     }
 }
 
-/// The streams that a field tells. A field that isn't that of any gives another's.
-pub(crate) fn overdraws_in(alloc: Global, field: &[u8]) -> Result<Vec<Overdraw>, Memory> {
+/// The streams that texts tell.
+fn overdraws_of(alloc: Global, texts: &[&[u8]]) -> Result<Vec<Overdraw>, Memory>
+    ensures { IfOk result (λ told. ReadsStreams (lent_texts texts.now) told.items) }
+{
     let mut overdraws = Vec::new(alloc);
-    if field.is_empty() {
-        return Ok(overdraws);
-    }
-    for text in field.split(|byte| *byte == b' ') {
-        overdraws.push(overdraw_in(text))?;
+    for i in 0..texts.len() {
+        overdraws.push(overdraw_in(texts[i]))?;
     }
     Ok(overdraws)
+}
+
+/// The streams that a field tells. A field that isn't that of any gives another's.
+pub(crate) fn overdraws_in(alloc: Global, field: &[u8]) -> Result<Vec<Overdraw>, Memory>
+    ensures { IfOk result (λ told. ReadsStreamField field.now told.items) }
+{
+    if field.is_empty() {
+        return Ok(Vec::new(alloc));
+    }
+    let texts = parts_of(alloc, field, b' ')?;
+    overdraws_of(alloc, &texts)
 }

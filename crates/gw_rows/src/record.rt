@@ -51,15 +51,6 @@ pub(crate) fn put_owned(alloc: Global, out: &mut Vec<u8>, fields: &[Vec<u8>]) ->
     put_record(alloc, out, &lent)
 }
 
-/// The parts of a line between its commas.
-pub(crate) fn parts_of(alloc: Global, line: &[u8]) -> Result<Vec<&[u8]>, Memory> {
-    let mut parts = Vec::new(alloc);
-    for part in line.split(|byte| *byte == b',') {
-        parts.push(part)?;
-    }
-    Ok(parts)
-}
-
 /// A copy of a field.
 pub(crate) fn copy_of(alloc: Global, field: &[u8]) -> Result<Vec<u8>, Memory>
     ensures { IfOk result (λ copy. copy.items ≡ field.now) }

@@ -13,7 +13,7 @@ use Rattle.gw_study.specs.declared.request.StudyRequest.{StudyRequest}
 use Rattle.gw_study.specs.declared.telling.Results.{Results}
 use Rattle.gw_comparison.specs.declared.point.Point.{Point}
 use Rattle.gw_alternatives.specs.Told.{IsTableOf, IsPointBy, AddsBlock, AddsAllDifferences}
-use Rattle.gw_rows.specs.Reading.{IsHeaderOf, IsLine}
+use Rattle.gw_rows.specs.Reading.{IsLine, NamesFigures}
 use Rattle.gw_rows.specs.Rows.{Source, row}
 use Rattle.gw_summary.specs.Adding.{has}
 use Rattle.gw_summary.specs.Keeping.{AreRowsOf, IsRead}
@@ -81,7 +81,7 @@ LinesTellRuns figures study point lines runs = LinesTell (labels figures) (sourc
 
 -- the figures that the header names, and the runs that the lines of a point tell
 pub record AreResultsOf (rows : Rows) (study : Study) (point : PointRows) (results : Results) : Type 0 where
-  pub figures : IsHeaderOf rows.header.items results.figures.items
+  pub figures : NamesFigures rows.header.items results.figures.items
   pub runs : LinesTellRuns results.figures.items study point.name.items point.lines.items results.runs.items
 
 -- what a study is asked for that has these runs

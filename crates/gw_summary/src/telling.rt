@@ -3,7 +3,7 @@
 ghost use Rattle.std.specs.Prelude.{◌≡◌, ◌≤◌, ◌+◌, ◌++◌, [], Some, length, IfOk, IfNone, IfSome, IsTrue, OnOk, vec_len};
 ghost use Rattle.std.specs.List.{All};
 ghost use Rattle.gw_figures.specs.Labels.{labels};
-ghost use Rattle.gw_rows.specs.Reading.{IsHeaderOf};
+ghost use Rattle.gw_rows.specs.Reading.{NamesFigures};
 ghost use Rattle.gw_rows.specs.Rows.{source_of};
 ghost use Rattle.gw_summary.specs.Telling as model;
 ghost use Rattle.gw_answers.specs.Requests.{AnswersAs};
@@ -194,7 +194,7 @@ fn runs_of(
 
 /// The figures of rows.
 fn figures_of(alloc: Global, rows: &Rows) -> Result<Vec<Figure>, Memory>
-    ensures { IfOk result (λ figures. IsHeaderOf rows.now.header.items figures.items) }
+    ensures { IfOk result (λ figures. NamesFigures rows.now.header.items figures.items) }
 {
     match figures_in(alloc, rows.header())? {
         Some(figures) => Ok(figures),

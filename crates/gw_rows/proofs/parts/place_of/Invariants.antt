@@ -1,0 +1,6 @@
+-- no byte before this one is of the kind
+use Rattle.std.proofs.Common.{◌≡◌, ◌<◌, ℕ, get_or, false, ◌==◌}
+use Rattle.gw_rows.proofs.parts.place_of.Given as goal
+
+abbrev pub invariant-loop-place : goal.invariant-loop-place
+invariant-loop-place l = (k : ℕ) → k < l.place → (get_or l.text k 0 == l.byte) ≡ false
