@@ -2,7 +2,9 @@
 
 use crate::bytes::put_hex;
 use crate::jobs::{Making, go_on, job_of, put_report, put_trace, put_view};
-use crate::objects::{Kind, Source, assemble_source, model_of, object_of, settled_of, verified_of};
+use crate::objects::{
+    Kind, Source, assembled_object, model_of, object_of, settled_of, verified_of,
+};
 use crate::rows::{put_number, put_row_at, put_weights};
 use crate::stop::Stop;
 use crate::words::{number, number_u32, place};
@@ -48,7 +50,7 @@ fn read_source(alloc: Global, out: &mut Vec<u8>, source: &Source) -> Result<(), 
 
 /// Assembles a text.
 fn assemble_source(alloc: Global, out: &mut Vec<u8>, source: &Source) -> Result<(), Stop> {
-    drop(assemble_source(alloc, source)?);
+    drop(assembled_object(alloc, source)?);
     out.extend_from_slice(b"assembled\n")?;
     Ok(())
 }

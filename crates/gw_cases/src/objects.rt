@@ -45,7 +45,7 @@ pub fn model_of(alloc: Global, source: &Source) -> Result<Model, Stop> {
 }
 
 /// The object that a text becomes.
-pub fn assemble_source(alloc: Global, source: &Source) -> Result<Object, Stop> {
+pub fn assembled_object(alloc: Global, source: &Source) -> Result<Object, Stop> {
     let model = model_of(alloc, source)?;
     let verified = assemble(alloc, &model);
     drop(model);
@@ -55,7 +55,7 @@ pub fn assemble_source(alloc: Global, source: &Source) -> Result<Object, Stop> {
 /// The object as the source gives it, without patches.
 fn bare_object(alloc: Global, source: &Source) -> Result<Object, Stop> {
     match source.kind {
-        Kind::Text => assemble_source(alloc, source),
+        Kind::Text => assembled_object(alloc, source),
         Kind::Object => Ok(read(alloc, source.bytes.as_slice())?),
     }
 }

@@ -24,7 +24,7 @@ words_of_code rows code = words_in (λ row. row.0) (λ row. (row.1.now, row.2.no
 
 -- what is wrong by a code, and how to mend it: its row of the table
 unfoldable pub advice_words : ℕ → Option (List ℕ × List ℕ)
-advice_words code = words_of_code ADVICE code
+advice_words code = words_in (λ row. row.0) (λ row. (row.1.now, row.2.now)) ADVICE code
 
 -- a line each, with what is known between them
 abbrev pub lines_of_words : List ℕ → List ℕ × List ℕ → List ℕ

@@ -1,23 +1,18 @@
 -- What explaining a model text or an object comes to: a text and a status.
-use Rattle.std.specs.Prelude.{◌≡◌, ◌⊎◌, ℕ, List, ◌++◌, MatchResult, MatchBool, Vec}
-use Rattle.std.specs.Borrow.{Bor}
-use Rattle.std.specs.Global.{Global}
+use Rattle.std.specs.Prelude.{◌≡◌, ◌⊎◌, ℕ, List, ◌++◌, MatchResult, MatchBool}
 use Rattle.std.specs.Str.Lines.{lines as lines_of_text}
 use Rattle.gw_object.specs.declared.fault.Fault.{Fault}
 use Rattle.gw_object.specs.declared.parts.Parts.{Parts}
 use Rattle.gw_rules.specs.Accepted.{Accepted}
-use Rattle.gw_text.specs.declared.model.Model.{Model}
 use Rattle.gw_text.specs.declared.model.Statement.{Statement}
 use Rattle.gw_assemble.specs.Assembly.{Assembles, IsRefusal}
-use Rattle.gw_answers.specs.declared.answer.Answer.{Answer}
 use Rattle.gw_answers.specs.Status.{end_status, refusal_status}
 use Rattle.gw_answers.specs.Answer.{accepted_line, object_of}
 use Rattle.gw_answers.specs.Assembly.{HasStatements, IsRefusedText}
 use Rattle.gw_answers.specs.Refusal.{refusal_line}
-use Rattle.gw_source_lines.specs.Sites.{Sites, sites_of, sites_told, no_sites, is_object}
-use Rattle.gw_source_lines.specs.declared.sources.Sources.{Sources}
+use Rattle.gw_source_lines.specs.Sites.{Sites, sites_of, no_sites, is_object}
 use Rattle.gw_explain.specs.Codes.{advice_lines}
-use Rattle.gw_explain.specs.Shown.{bytes_of, shown_lines}
+use Rattle.gw_explain.specs.Shown.{shown_lines}
 use Rattle.gw_explain.specs.Marks.{IsMarked}
 
 -- a text begins with this
@@ -41,14 +36,6 @@ pub record TellsFault (lines : List (List ℕ)) (sites : Sites) (fault : Fault) 
 -- the explanation of a refusal: its line, and what is told of it
 abbrev pub ExplainsRefusal : List ℕ → Sites → Fault → List ℕ → Type 0
 ExplainsRefusal bytes sites fault text = TellsFault (lines_of_text bytes) sites fault (refusal_line fault) text
-
--- it is told behind a text of lines with these places
-abbrev pub AddsFault : List (Bor (List ℕ)) → Sources → Fault → Vec ℕ Global → Vec ℕ Global → Type 0
-AddsFault lines sources fault old new = TellsFault (bytes_of lines) (sites_told sources) fault old.items new.items
-
--- an answer explains a refusal of a model that was read
-abbrev pub ExplainsModelRefusal : List ℕ → Model → Fault → Answer → Type 0
-ExplainsModelRefusal bytes model fault a = ExplainsRefusal bytes (sites_of model.statements.items) fault a.text.items
 
 -- that of an accepted model: its line, and words
 abbrev pub ExplainsModel : List Statement → List ℕ → Type 0

@@ -1,11 +1,10 @@
 //! The explanation of a model text, or of an object.
 
-ghost use Rattle.std.specs.Prelude.{◌≡◌, IfOk, OnOk};
+ghost use Rattle.std.specs.Prelude.{◌≡◌, map, IfOk, OnOk};
 ghost use Rattle.gw_answers.specs.Status.{end_status as ended_status, refusal_status};
 ghost use Rattle.gw_answers.specs.Answer.{accepted_line};
-ghost use Rattle.gw_source_lines.specs.Sites.{no_sites, sites_told};
-ghost use Rattle.gw_explain.specs.Explanation.{AddsFault, Begins, ExplainsModelRefusal, ExplainsRefusal};
-ghost use Rattle.gw_explain.specs.Explanation.{IsExplained, IsExplainedModel, IsExplainedText};
+ghost use Rattle.gw_source_lines.specs.Sites.{no_sites, sites_of, sites_told};
+ghost use Rattle.gw_explain.specs.Explanation.{Begins, ExplainsRefusal, TellsFault, IsExplainedModel, IsExplainedText, IsExplained};
 
 use crate::facts::known_in_model;
 use crate::forms::{put_marks, put_words_on_site, site_of};
@@ -33,7 +32,8 @@ fn put_told(
     sources: &Sources,
     fault: Fault,
 ) -> Result<(), Memory>
-    ensures { OnOk result (AddsFault lines.now sources.now fault out.old out.new) }
+    ensures { OnOk result (TellsFault (map (λ l. l.now) lines.now) (sites_told sources.now) fault
+        out.old.items out.new.items) }
 {
     let site = site_of(alloc, lines, fault)?;
     put_lines_of(out, lines, sources, fault.place)?;
@@ -84,7 +84,8 @@ fn known_of(
 
 /// The explanation of a refusal of a model text that was read.
 fn refusal_in(alloc: Global, text: &[u8], model: &Model, fault: Fault) -> Result<Answer, Memory>
-    ensures text { IfOk result (ExplainsModelRefusal text.now model.now fault) }
+    ensures text { IfOk result (λ a.
+        ExplainsRefusal text.now (sites_of model.now.statements.items) fault a.text.items) }
     ensures status { IfOk result (λ a. a.status ≡ refusal_status) }
 {
     let sources = sources(alloc, model)?;
