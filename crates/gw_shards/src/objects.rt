@@ -116,8 +116,8 @@ pub fn object_of_run(
     count: u64,
 ) -> Result<Answer, Memory>
     requires { run < 512 }
-    ensures { AnswersAs result
-        (model.IsObjectAnswer text.now (map (λ w. w.now) words.now) run count) }
+    ensures { IfOk result (λ a.
+        model.IsObjectAnswer text.now (map (λ w. w.now) words.now) run count a.text.items a.status) }
 {
     match points_by_words(alloc, text, words, count) {
         Ok(points) => object_of(alloc, &points, run),

@@ -1,7 +1,6 @@
 //! The rows of runs of a model's points.
 
 ghost use Rattle.std.specs.Prelude.{◌≡◌, ◌≤◌, ◌<◌, ◌+◌, ◌++◌, ◌∷◌, [], length, map, IfOk, OnOk};
-ghost use Rattle.gw_answers.specs.Requests.{AnswersAs};
 ghost use Rattle.gw_answers.specs.Status.{end_status, refusal_status};
 ghost use Rattle.gw_rows.specs.Refusals.{refusal_rows};
 ghost use Rattle.gw_rows.specs.Rows.{rows_by, source_of};
@@ -225,8 +224,8 @@ pub fn rows_between<T: Threads + Sync + Eprint>(
     request: &RowsRequest,
 ) -> Result<Answer, Memory>
     requires { (request.now.first ≤ request.now.end) × (request.now.end ≤ 512) }
-    ensures { AnswersAs result
-        (model.AreRows text.now (map (λ w. w.now) words.now) request.now) }
+    ensures { IfOk result (λ a.
+        model.AreRows text.now (map (λ w. w.now) words.now) request.now a.text.items a.status) }
 {
     let digest = digest_of(alloc, text)?;
     let common = Common {
