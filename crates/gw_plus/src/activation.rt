@@ -102,7 +102,7 @@ fn entry_for(turns: &mut ArrayVec<Turns, 32>, place: usize) -> usize
 }
 
 /// What an instruction makes of the value of the procedure that it called: VALUE what its attribute makes of it
-/// (`gw_operands::made`), and CALL leaves it as it is.
+/// (`gw_operands::operand_value`), and CALL leaves it as it is.
 pub(crate) fn finished(parts: &Parts, instruction: Instruction, value: i64) -> i64
     ensures { result ≡ finish_of parts.now instruction value }
 {
@@ -210,7 +210,7 @@ impl Activation {
     }
 
     /// VALUE: by its source, a procedure is called, or what the attribute makes of a value that is kept comes onto the stack
-    /// (`gw_operands::source_of`, `gw_operands::made`).
+    /// (`gw_operands::source_of`, `gw_operands::operand_value`).
     fn value(&mut self, parts: &Parts, env: &Env, sna: Sna) -> Step
         requires code { CodeHolds parts.now }
         requires environment { IsOf parts.now env.now }
