@@ -24,9 +24,11 @@ use Rattle.gw_code.specs.Grammar.{ProcedureFits, NeedsAscend, procedure}
 use Rattle.gw_field_bytes.proofs.AboveLast.{above_last_exact, above_last_fit, above_last_ascends}
 use Rattle.gw_code.proofs.Backs.{backs_within, code_fits, begins_as_it_is, front_of_back}
 use Rattle.gw_field_bytes.proofs.Exact.{IsBytes, Takes, CutsFronts, chosen, err_is, not_both, ReadsBack, ◌also◌, tag_reads_back, IsExactForm}
-use Rattle.gw_field_bytes.proofs.Exact.{AreExactForms, behind_exact, by_tag_exact, IsExact, IsExactElement, byte_exact, wide16, wide32, wide64}
+use Rattle.gw_field_bytes.proofs.Exact.{AreExactForms, behind_exact, by_tag_exact, IsExact, byte_exact, wide16, wide32, wide64}
+use Rattle.gw_field_bytes.proofs.ExactLists.{IsExactElement}
 use Rattle.gw_field_bytes.proofs.Exact.{number_exact, signed_exact, nothing_exact, made_exact, both_exact, and_then_exact, fitting_exact}
-use Rattle.gw_field_bytes.proofs.Exact.{ranged_exact, listed_exact, All-from_fit}
+use Rattle.gw_field_bytes.proofs.Exact.{ranged_exact}
+use Rattle.gw_field_bytes.proofs.ExactLists.{listed_exact, All-from_fit}
 
 -- ---- attributes
 

@@ -4,7 +4,8 @@ use Rattle.std.specs.Prelude.{nat_lt}
 use Rattle.std.specs.List.{All, AllPairs}
 use Rattle.gw_fields.specs.Fields.{Field, nothing, above_last, ElementsFit}
 use Rattle.gw_field_bytes.proofs.Ascending.{ascending_exact, nat_order, ascends, ascending_fit}
-use Rattle.gw_field_bytes.proofs.Exact.{IsExact, IsExactElement, nothing_exact}
+use Rattle.gw_field_bytes.proofs.Exact.{IsExact, nothing_exact}
+use Rattle.gw_field_bytes.proofs.ExactLists.{IsExactElement}
 
 abbrev first : ℕ × Unit {0} → ℕ
 first x = x.0

@@ -14,7 +14,8 @@ use Rattle.std.proofs.lemmas.List.Quantifiers.{all_pairs_push}
 use Rattle.std.proofs.lemmas.Option.{slice_get-get_or}
 use Rattle.gw_fields.specs.Codes as codes
 use Rattle.gw_fields.specs.Fields.{Field, field_with_test, both, is_above, ascending_element, ElementsFit}
-use Rattle.gw_field_bytes.proofs.Exact.{IsExact, IsExactElement, made_exact, tested_exact, both_exact}
+use Rattle.gw_field_bytes.proofs.Exact.{IsExact, made_exact, tested_exact, both_exact}
+use Rattle.gw_field_bytes.proofs.ExactLists.{IsExactElement}
 
 -- ---- orders of keys
 

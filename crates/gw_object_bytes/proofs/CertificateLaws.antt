@@ -15,7 +15,8 @@ use Rattle.gw_block_bytes.proofs.BlockLaws.{parameter_number_exact}
 use Rattle.gw_field_bytes.specs.Receivers.{Content, with_bytes}
 use Rattle.gw_field_bytes.proofs.Receiving.{one_more_put}
 use Rattle.gw_field_bytes.proofs.Exact.{Takes, cuts_still, bind_ok, bind_err, ok_is, not_both, IsExact, wide32, number_exact, both_exact}
-use Rattle.gw_field_bytes.proofs.Exact.{ranged_exact, nothing_exact, optional_exact, plain_exact, elements_exact, All-from_fit, fit-from_All}
+use Rattle.gw_field_bytes.proofs.Exact.{ranged_exact, nothing_exact, optional_exact}
+use Rattle.gw_field_bytes.proofs.ExactLists.{plain_exact, elements_exact, All-from_fit, fit-from_All}
 
 -- one more weight is put behind those before it, with its slope
 pub one_more_weight : (version : ℕ) (weights : List ℕ) (slopes : List (Option (ℕ × ℕ))) (i w : ℕ) (s : Option (ℕ × ℕ))

@@ -23,9 +23,10 @@ use Rattle.gw_object.specs.Entities.{entity_spelling, entity_read, FitsBehind, e
 use Rattle.gw_object_bytes.proofs.KindLaws.{capacity_exact, initial_value_exact, table_exact, function_exact}
 use Rattle.gw_block_bytes.proofs.BlockLaws.{procedure_number_exact}
 use Rattle.gw_field_bytes.proofs.OneOf.{flag_exact}
-use Rattle.gw_field_bytes.proofs.Exact.{ReadsBack, ◌also◌, IsExact, IsExactForm, AreExactForms, IsExactElement, behind_exact, by_tag_takes}
+use Rattle.gw_field_bytes.proofs.Exact.{ReadsBack, ◌also◌, IsExact, IsExactForm, AreExactForms, behind_exact, by_tag_takes}
+use Rattle.gw_field_bytes.proofs.ExactLists.{IsExactElement}
 use Rattle.gw_field_bytes.proofs.Exact.{by_tag_within, tag_reads_back, byte_exact, tested_exact, both_exact, fitting_exact, nothing_exact}
-use Rattle.gw_field_bytes.proofs.Exact.{plain_exact, listed_exact, All-from_fit, fit-from_All}
+use Rattle.gw_field_bytes.proofs.ExactLists.{plain_exact, listed_exact, All-from_fit, fit-from_All}
 
 -- ---- names
 

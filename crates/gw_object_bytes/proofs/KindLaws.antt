@@ -10,8 +10,10 @@ use Rattle.gw_blocks.specs.Grammar.{OperandFits}
 use Rattle.gw_object.specs.Entities.{capacity, initial_value, TableFits, table, PointFits, point, FunctionFits, PointsAscend, function}
 use Rattle.gw_block_bytes.proofs.BlockLaws.{operand_exact}
 use Rattle.gw_field_bytes.proofs.Ascending.{int_order, ascending_exact, ascends, ascending_fit}
-use Rattle.gw_field_bytes.proofs.Exact.{IsExact, IsExactElement, wide16, wide32, wide64, number_exact, signed_exact, made_exact, both_exact}
-use Rattle.gw_field_bytes.proofs.Exact.{fitting_exact, ranged_exact, listed_exact, All-from_fit}
+use Rattle.gw_field_bytes.proofs.Exact.{IsExact, wide16, wide32, wide64, number_exact, signed_exact, made_exact, both_exact}
+use Rattle.gw_field_bytes.proofs.ExactLists.{IsExactElement}
+use Rattle.gw_field_bytes.proofs.Exact.{fitting_exact, ranged_exact}
+use Rattle.gw_field_bytes.proofs.ExactLists.{listed_exact, All-from_fit}
 
 pub capacity_exact : IsExact capacity
 capacity_exact = ranged_exact 1 greatest_capacity (number w32) (λ n h. omega arith) (number_exact w32 wide32)

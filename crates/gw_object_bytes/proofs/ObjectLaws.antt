@@ -26,10 +26,12 @@ use Rattle.gw_object_bytes.proofs.CertificateLaws.{weight_exact, certificate_exa
 use Rattle.gw_object_bytes.proofs.EntityLaws.{entity_exact, entities_fit, entities_are}
 use Rattle.gw_object_bytes.proofs.StateLaws.{return_rows_exact, return_rows_fit, return_rows_keep, state_exact, rows_fit, rows_keep}
 use Rattle.gw_block_bytes.proofs.BlockLaws.{block_exact}
-use Rattle.gw_field_bytes.proofs.Exact.{IsCut, CutsFronts, cuts_still, front_shorter, IsBytes, Takes-shorter, IsExact, IsExactElement, bind_ok}
+use Rattle.gw_field_bytes.proofs.Exact.{IsCut, CutsFronts, cuts_still, front_shorter, IsBytes, Takes-shorter, IsExact, bind_ok}
+use Rattle.gw_field_bytes.proofs.ExactLists.{IsExactElement}
 use Rattle.gw_field_bytes.proofs.Exact.{bind_err, chosen, ok_is, err_is, not_both, wide16, wide32, wide64, number_exact, made_exact, and_then_exact}
-use Rattle.gw_field_bytes.proofs.Exact.{both_exact, tested_exact, fitting_exact, constant_exact, ranged_exact, optional_exact, plain_exact}
-use Rattle.gw_field_bytes.proofs.Exact.{last_tested_exact, elements_exact, listed_exact, All-from_fit, fit-from_All}
+use Rattle.gw_field_bytes.proofs.Exact.{both_exact, tested_exact, fitting_exact, constant_exact, ranged_exact, optional_exact}
+use Rattle.gw_field_bytes.proofs.ExactLists.{plain_exact}
+use Rattle.gw_field_bytes.proofs.ExactLists.{last_tested_exact, elements_exact, listed_exact, All-from_fit, fit-from_All}
 
 -- ---- what stands for each block
 

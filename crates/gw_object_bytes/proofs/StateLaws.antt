@@ -19,9 +19,11 @@ use Rattle.gw_blocks.specs.Grammar.{entity_number, block_number, parameter_numbe
 use Rattle.gw_block_bytes.proofs.BlockLaws.{entity_number_exact, block_number_exact, parameter_number_exact}
 use Rattle.gw_field_bytes.proofs.AboveLast.{above_last_exact, above_last_fit, above_last_ascends}
 use Rattle.gw_field_bytes.proofs.Ascending.{ascending_exact, nat_order, ascends, ascending_fit}
-use Rattle.gw_field_bytes.proofs.Exact.{ReadsBack, ◌also◌, tag_reads_back, AreExactForms, behind_exact, by_tag_exact, IsExact, IsExactElement}
-use Rattle.gw_field_bytes.proofs.Exact.{plain_exact, wide16, wide32, number_exact, made_exact, both_exact, fitting_exact, ranged_exact, nothing_exact}
-use Rattle.gw_field_bytes.proofs.Exact.{listed_exact, All-from_fit, fit-from_All}
+use Rattle.gw_field_bytes.proofs.Exact.{ReadsBack, ◌also◌, tag_reads_back, AreExactForms, behind_exact, by_tag_exact, IsExact}
+use Rattle.gw_field_bytes.proofs.ExactLists.{IsExactElement}
+use Rattle.gw_field_bytes.proofs.Exact.{wide16, wide32, number_exact, made_exact, both_exact, fitting_exact, ranged_exact, nothing_exact}
+use Rattle.gw_field_bytes.proofs.ExactLists.{plain_exact}
+use Rattle.gw_field_bytes.proofs.ExactLists.{listed_exact, All-from_fit, fit-from_All}
 
 -- ---- states
 
