@@ -1,4 +1,5 @@
 pub mod Counting
 pub mod Four
+pub mod OfLabels
 pub mod Ranges
 pub mod Reaching

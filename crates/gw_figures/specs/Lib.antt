@@ -1,4 +1,5 @@
 pub mod Labels
+pub mod Laws
 pub mod Trends
 pub mod Values
 pub mod Windows

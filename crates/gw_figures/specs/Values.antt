@@ -107,7 +107,7 @@ table_values t w e =
     let before = (entity_at e w.start).table in
     let after = (entity_at e w.end).table in
     sum_values before after
-    ++ classes_values t (after.count - before.count) (rises (classes_at e w.start) (classes_at e w.end))
+    ++ classes_values t (after.count - before.count) (rises t.classes (classes_at e w.start) (classes_at e w.end))
 
 -- of an entity of this kind and this number
 abbrev pub kind_values : Kind → Span → ℕ → List (Option ℤ)

@@ -1,6 +1,6 @@
 -- A window of a run: the numbers of the states with which it begins and ends, and what the run did in
 -- between.
-use Rattle.std.specs.Prelude.{◌≡◌, Result, OnOk, Vec, ◌++◌, ℕ, ◌-◌, ◌*◌, ◌^◌, Bool, ℤ, pos, ◌*ℤ◌, List, map, length, nat_le, ◌==◌, ◌||◌, unsigned_abs}
+use Rattle.std.specs.Prelude.{◌≡◌, Result, OnOk, Vec, ◌++◌, ℕ, ◌-◌, ◌*◌, ◌^◌, Bool, ℤ, pos, ◌*ℤ◌, List, map, nat_le, ◌==◌, ◌||◌, unsigned_abs}
 use Rattle.std.specs.Prelude.{slice_index_or, Option, None, Some, if◌then◌else◌}
 use Rattle.std.specs.Global.{Global}
 use Rattle.std.specs.List.{range_with_len}
@@ -59,7 +59,7 @@ greatest w n = if w.whole then units n else None
 abbrev pub class_at : List ℕ → ℕ → ℕ
 class_at classes i = slice_index_or classes i 0
 
--- how many values each class got
-abbrev pub rises : List ℕ → List ℕ → List ℕ
-rises before after =
-    map (λ i. class_at after i - class_at before i) (range_with_len 0 (length after))
+-- how many values each of so many classes got
+abbrev pub rises : ℕ → List ℕ → List ℕ → List ℕ
+rises classes before after =
+    map (λ i. class_at after i - class_at before i) (range_with_len 0 classes)

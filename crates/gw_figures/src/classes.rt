@@ -1,6 +1,6 @@
 //! How many values each class of a table got.
 
-ghost use Rattle.std.specs.Prelude.{◌≡◌, length, vec_len, IfOk};
+ghost use Rattle.std.specs.Prelude.{◌≡◌, vec_len, IfOk};
 ghost use Rattle.gw_figures.specs.Windows as model;
 
 use gw_object::Memory;
@@ -13,13 +13,19 @@ fn class_at(classes: &[u64], class: usize) -> u64
     classes.get(class).copied().unwrap_or(0)
 }
 
-/// How many values each class got from one state to another.
-pub(crate) fn rises(alloc: Global, before: &[u64], after: &[u64]) -> Result<Vec<u64>, Memory>
-    ensures { IfOk result (λ rises. rises.items ≡ model.rises before.now after.now) }
+/// How many values each of so many classes got from one state to another.
+pub(crate) fn rises(
+    alloc: Global,
+    classes: u16,
+    before: &[u64],
+    after: &[u64],
+) -> Result<Vec<u64>, Memory>
+    ensures { IfOk result (λ rises. rises.items ≡ model.rises classes before.now after.now) }
 {
-    let mut rises = Vec::with_capacity(alloc, after.len())?;
-    for i in 0..after.len() {
-        rises.push(after[i].saturating_sub(class_at(before, i)))?;
+    let classes = usize::from(classes);
+    let mut rises = Vec::with_capacity(alloc, classes)?;
+    for i in 0..classes {
+        rises.push(class_at(after, i).saturating_sub(class_at(before, i)))?;
     }
     Ok(rises)
 }

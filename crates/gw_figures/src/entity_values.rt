@@ -157,6 +157,7 @@ fn put_table(
     let after = window.end.entity(number).table;
     let classes = rises(
         alloc,
+        table.classes,
         window.start.classes(number),
         window.end.classes(number),
     )?;
