@@ -90,7 +90,7 @@ plain_changes (l ∷ ls) h = by_test (has_trend l) (plain_changes ls (All-tail (
     by_test true rest = (plain_append trend_front l.name refl (All-head (λ x. IsPlain x.name) l ls h), rest)
     by_test false rest = rest
 
-all_plain : (ls : List Label) → All (λ l. IsPlain l.name) ls → ArePlain (names ls)
+pub all_plain : (ls : List Label) → All (λ l. IsPlain l.name) ls → ArePlain (names ls)
 all_plain ls h = (
   refl,
   (

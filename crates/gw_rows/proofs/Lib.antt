@@ -10,4 +10,13 @@ pub mod Parting
 pub mod StreamFields
 pub mod Following
 pub mod Telling
+pub mod Apart
+pub mod Changing
+pub mod Letters
+pub mod ByName
+pub mod ModelFigures
 pub mod HeaderTexts
+pub mod RowLines
+pub mod OneSource
+pub mod Digits
+pub mod InRange

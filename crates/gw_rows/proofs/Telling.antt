@@ -34,7 +34,7 @@ field_at zero (x ∷ xs) = x
 field_at (suc n) (x ∷ xs) = field_at n xs
 
 -- two records with one text have the same fields
-fields_are_one : (x y : List ℕ) (xs : List (List ℕ)) (a b : List ℕ) (cs : List (List ℕ))
+pub fields_are_one : (x y : List ℕ) (xs : List (List ℕ)) (a b : List ℕ) (cs : List (List ℕ))
     → row_text default_writer (x ∷ y ∷ xs) ≡ row_text default_writer (a ∷ b ∷ cs) → x ∷ y ∷ xs ≡ a ∷ b ∷ cs
 unfolding record_of
 fields_are_one x y xs a b cs is =

@@ -70,6 +70,14 @@ pub record IsRunInRange (run : Run) : Type 0 where
   pub trend : All IsAmount run.trend.items
   pub overdraws : All IsStreamInRange run.overdraws.items
 
+-- where figures change only where rows tell that, changes are amounts
+abbrev pub MayBeAmounts : List Label → List (Option ℤ) → Type 0
+MayBeAmounts labels trend = AllZip MayChange labels trend → All IsAmount trend
+
+-- where a run has these figures, its numbers are in the ranges of their types
+abbrev pub MayBeInRange : List Label → Run → Type 0
+MayBeInRange labels run = HasFigures labels run → IsRunInRange run
+
 -- OF A ROW
 
 -- of what a row is one is in range: a run below 512, a count from 1 to 2^40, a window and how many rows there are below 2^64
@@ -105,10 +113,11 @@ HasRowText labels line row = IsLine line (rows.row labels (source_of row.origin)
 abbrev pub IsRowOf : List Label → List ℕ → Row → Type 0
 IsRowOf labels line row = IsInRange row × HasRowText labels line row
 
--- and its run has these figures
+-- and its run has these figures, and numbers in the ranges of their types
 pub record IsLineOf (labels : List Label) (line : List ℕ) (row : Row) : Type 0 where
   pub row_is : IsRowOf labels line row
   pub figures : HasFigures labels row.run
+  pub range : IsRunInRange row.run
 
 -- a line is that of no row that can be read
 abbrev pub IsNoRow : List Label → List ℕ → Type 0

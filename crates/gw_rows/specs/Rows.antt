@@ -1,8 +1,9 @@
 -- Rows: a run, and of what it is one, as a line of CSV.
-use Rattle.std.specs.Prelude.{◌≡◌, ℕ, ◌+◌, ◌==◌, List, [], ◌∷◌, ◌++◌, map, codes, ℤ, Option, Result, OnOk, Vec, if◌then◌else◌}
+use Rattle.std.specs.Prelude.{◌≡◌, ℕ, ◌+◌, ◌==◌, ◌&&◌, List, [], ◌∷◌, ◌++◌, map, codes, Bool, ℤ, Option, Result, OnOk, Vec, if◌then◌else◌}
 use Rattle.std.specs.Borrow.{Bor}
 use Rattle.std.specs.Fmt.{decimal}
 use Rattle.std.specs.Global.{Global}
+use Rattle.std.specs.Str.{bytes_eq}
 use Rattle.csv.specs.Writing.{row_text, default_writer}
 use Rattle.gw_scan.specs.declared.sim.Status.TheVariants.{Ended}
 use Rattle.gw_report.specs.Report.{status_word}
@@ -42,6 +43,10 @@ pub record Source : Type 0 where
 
 abbrev pub source_of : Origin → Source
 source_of o = record { model = o.model.items; rows = o.rows; point = o.point.items; count = o.count; from = o.from }
+
+-- rows of two sources are of one study: they may be of two of its points
+abbrev pub is_of_study : Source → Source → Bool
+is_of_study s t = bytes_eq s.model t.model && (s.rows == t.rows) && (s.count == t.count) && (s.from == t.from)
 
 -- the fields that say it
 abbrev pub source_fields : Source → List (List ℕ)

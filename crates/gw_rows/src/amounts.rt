@@ -5,7 +5,7 @@ ghost use Rattle.std.specs.Int.{w128};
 ghost use Rattle.std.specs.Fmt.{decimal};
 ghost use Rattle.gw_comparison.specs.Amounts.{sign_of as sign, tail};
 ghost use Rattle.gw_rows.specs.Amounts as model;
-ghost use Rattle.gw_rows.specs.Reading.{ReadsAmount};
+ghost use Rattle.gw_rows.specs.Reading.{IsAmount, ReadsAmount};
 
 use crate::parts::{behind_first, split_at_byte};
 use gw_object::Memory;
@@ -77,7 +77,8 @@ fn put_amount(out: &mut Vec<u8>, amount: i128) -> Result<(), Memory>
 
 /// The field of an amount: empty where there is none.
 pub(crate) fn amount_field(alloc: Global, amount: Option<i128>) -> Result<Vec<u8>, Memory>
-    ensures { IfOk result (λ field. field.items ≡ model.amount_field amount) }
+    ensures field { IfOk result (λ field. field.items ≡ model.amount_field amount) }
+    ensures range { OnOk result (IsAmount amount) }
 {
     let mut field = Vec::new(alloc);
     match amount {

@@ -1,5 +1,9 @@
 //! Of what a row's run is one.
 
+ghost use Rattle.std.specs.Prelude.{◌≡◌};
+ghost use Rattle.gw_rows.specs.Rows as model;
+ghost use Rattle.gw_rows.specs.Rows.{source_of};
+
 /// Of what a row's run is one: rows of one study differ in nothing of it but the point.
 #[derive(Debug, Drop)]
 pub struct Origin {
@@ -17,7 +21,9 @@ pub struct Origin {
 
 impl Origin {
     /// Whether two rows are of one study: they may be of two of its points.
-    pub fn is_of_study(&self, other: &Origin) -> bool {
+    pub fn is_of_study(&self, other: &Origin) -> bool
+        ensures { result ≡ model.is_of_study (source_of self.now) (source_of other.now) }
+    {
         self.model.as_slice() == other.model.as_slice()
             && self.rows == other.rows
             && self.count == other.count

@@ -2,6 +2,7 @@
 //! them, and nothing where there are none.
 
 ghost use Rattle.std.specs.Prelude.{◌≡◌, ◌++◌, IfOk, OnOk};
+ghost use Rattle.std.specs.List.{All};
 ghost use Rattle.gw_rows.specs.Reading.{IsStreamInRange, ReadsStreamField, ReadsStreams};
 ghost use Rattle.gw_rows.specs.Rows as model;
 ghost use Rattle.gw_rows.specs.Rows.{lent_texts};
@@ -16,7 +17,8 @@ use std::alloc::Global;
 /// A stream, and how many numbers were drawn of how many.
 #[tactic(auto, unfolding(crate::specs::Rows::overdraw_text))]
 fn put_overdraw(out: &mut Vec<u8>, overdraw: Overdraw) -> Result<(), Memory>
-    ensures { OnOk result (out.new.items ≡ out.old.items ++ model.overdraw_text overdraw) }
+    ensures text { OnOk result (out.new.items ≡ out.old.items ++ model.overdraw_text overdraw) }
+    ensures range { OnOk result (IsStreamInRange overdraw) }
 {
     put_number(out, "RN", overdraw.stream)?;
     put_number(out, "=", overdraw.most)?;
@@ -33,7 +35,8 @@ fn put_between(out: &mut Vec<u8>, place: usize) -> Result<(), Memory>
 /// The field of streams.
 #[tactic(auto, unfolding(crate::specs::Rows::overdraws_text))]
 pub(crate) fn overdraws_field(alloc: Global, overdraws: &[Overdraw]) -> Result<Vec<u8>, Memory>
-    ensures { IfOk result (λ field. field.items ≡ model.overdraws_text 0 overdraws.now) }
+    ensures field { IfOk result (λ field. field.items ≡ model.overdraws_text 0 overdraws.now) }
+    ensures range { OnOk result (All IsStreamInRange overdraws.now) }
 {
     let mut field = Vec::new(alloc);
     for i in 0..overdraws.len() {

@@ -1,12 +1,12 @@
 //! Reading rows.
 
-ghost use Rattle.std.specs.Prelude.{◌≡◌, ◌↔◌, ◌<◌, ◌+◌, ◌^◌, ℕ, [], length, slice_index_or, if◌then◌else◌, IfOk, IsTrue};
+ghost use Rattle.std.specs.Prelude.{◌≡◌, ◌↔◌, ◌<◌, ◌+◌, ◌^◌, ℕ, [], length, slice_index_or, if◌then◌else◌, IfOk, IsTrue, OnOk};
 ghost use Rattle.std.specs.List.{AllZip};
 ghost use Rattle.gw_figures.specs.Labels.{label_of, labels};
 ghost use Rattle.gw_rows.specs.Names.{has_trend as has_trend_of};
 ghost use Rattle.gw_rows.specs.Rows as model;
 ghost use Rattle.gw_rows.specs.Rows.{lent_texts};
-ghost use Rattle.gw_rows.specs.Reading.{FindsRow, HasFigures, HasRowText, IsInRange, IsRowOf, MayChange, ReadsChange};
+ghost use Rattle.gw_rows.specs.Reading.{FindsRow, HasFigures, HasRowText, IsInRange, IsRowOf, MayBeInRange, MayChange, ReadsChange};
 ghost use Rattle.gw_rows.specs.Reading.{ReadsNumber, ReadsRow, ReadsRun, ReadsSource, ReadsTrend, ReadsValues};
 
 use crate::amounts::{amount_in, number_in};
@@ -156,7 +156,8 @@ fn is_in_range(row: &Row) -> bool
 
 /// Whether a line is that of a row.
 fn is_line_of(alloc: Global, line: &[u8], figures: &[Figure], row: &Row) -> Result<bool, Memory>
-    ensures { IfOk result (λ is. IsTrue is ↔ HasRowText (labels figures.now) line.now row.now) }
+    ensures row { IfOk result (λ is. IsTrue is ↔ HasRowText (labels figures.now) line.now row.now) }
+    ensures range { OnOk result (MayBeInRange (labels figures.now) row.now.run) }
 {
     let mut again = Vec::new(alloc);
     put_row(
@@ -172,7 +173,8 @@ fn is_line_of(alloc: Global, line: &[u8], figures: &[Figure], row: &Row) -> Resu
 
 /// Whether a row may be one, and a line is that of it.
 fn is_row_of(alloc: Global, line: &[u8], figures: &[Figure], row: &Row) -> Result<bool, Memory>
-    ensures { IfOk result (λ is. IsTrue is ↔ IsRowOf (labels figures.now) line.now row.now) }
+    ensures row { IfOk result (λ is. IsTrue is ↔ IsRowOf (labels figures.now) line.now row.now) }
+    ensures range { IfOk result (λ is. IsTrue is → MayBeInRange (labels figures.now) row.now.run) }
 {
     if is_in_range(row) {
         is_line_of(alloc, line, figures, row)

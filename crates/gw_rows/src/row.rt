@@ -1,9 +1,12 @@
 //! A row: a run, and of what it is one.
 
-ghost use Rattle.std.specs.Prelude.{◌≡◌, ◌++◌, ◌∷◌, [], map, IfOk, OnOk};
+ghost use Rattle.std.specs.Prelude.{◌≡◌, ◌<◌, ◌^◌, ◌++◌, ◌∷◌, [], map, true, IfOk, OnOk};
+ghost use Rattle.std.specs.List.{All};
 ghost use Rattle.gw_figures.specs.Labels.{label_of, labels};
 ghost use Rattle.gw_figures.specs.Trends.{value_at};
 ghost use Rattle.gw_rows.specs.Amounts.{amount_field as amount_text};
+ghost use Rattle.gw_rows.specs.Names.{has_trend as has_trend_of};
+ghost use Rattle.gw_rows.specs.Reading.{IsAmount, IsStreamInRange, MayBeAmounts, MayBeInRange};
 ghost use Rattle.gw_rows.specs.Rows as model;
 ghost use Rattle.gw_rows.specs.Rows.{AddsFields};
 
@@ -62,7 +65,9 @@ fn put_origin(alloc: Global, fields: &mut Vec<Vec<u8>>, origin: &Origin) -> Resu
 
 /// The fields of which run it is, how it ended, and what it may have drawn.
 fn put_end(alloc: Global, fields: &mut Vec<Vec<u8>>, number: u32, run: &Run) -> Result<(), Memory>
-    ensures { AddsFields result fields.old fields.new (model.end_fields number run.now) }
+    ensures fields { AddsFields result fields.old fields.new (model.end_fields number run.now) }
+    ensures steps { OnOk result (run.now.steps < 2 ^ 64) }
+    ensures overdraws { OnOk result (All IsStreamInRange run.now.overdraws.items) }
 {
     fields.push(number_field(alloc, number)?)?;
     fields.push(copy_of(alloc, word_of(run.end).as_bytes())?)?;
@@ -77,7 +82,8 @@ fn put_values(
     fields: &mut Vec<Vec<u8>>,
     values: &[Option<i128>],
 ) -> Result<(), Memory>
-    ensures { AddsFields result fields.old fields.new (map amount_text values.now) }
+    ensures fields { AddsFields result fields.old fields.new (map amount_text values.now) }
+    ensures range { OnOk result (All IsAmount values.now) }
 {
     for i in 0..values.len() {
         fields.push(amount_field(alloc, values[i])?)?;
@@ -92,8 +98,9 @@ fn put_trend(
     figure: &Figure,
     trend: Option<i128>,
 ) -> Result<(), Memory>
-    ensures { AddsFields result fields.old fields.new
+    ensures field { AddsFields result fields.old fields.new
         (model.trend_field (label_of figure.now) trend) }
+    ensures range { OnOk result (has_trend_of (label_of figure.now) ≡ true → IsAmount trend) }
 {
     if !has_trend(figure) {
         return Ok(());
@@ -120,8 +127,9 @@ fn put_trends(
     figures: &[Figure],
     trends: &[Option<i128>],
 ) -> Result<(), Memory>
-    ensures { AddsFields result fields.old fields.new
+    ensures fields { AddsFields result fields.old fields.new
         (model.trend_fields (labels figures.now) 0 trends.now) }
+    ensures range { OnOk result (MayBeAmounts (labels figures.now) trends.now) }
 {
     for i in 0..figures.len() {
         put_trend(alloc, fields, &figures[i], trend_at(trends, i))?;
@@ -130,7 +138,7 @@ fn put_trends(
 }
 
 /// The row of a run, behind others: a line with the fields that [`put_header`](crate::put_header) names.
-#[tactic(auto, unfolding(crate::specs::Rows::row))]
+#[tactic(auto, unfolding(crate::specs::Rows::row), using(crate::proofs::InRange::run_in_range))]
 pub fn put_row(
     alloc: Global,
     out: &mut Vec<u8>,
@@ -139,8 +147,9 @@ pub fn put_row(
     number: u32,
     run: &Run,
 ) -> Result<(), Memory>
-    ensures { OnOk result
+    ensures row { OnOk result
         (out.new.items ≡ out.old.items ++ model.row_by figures.now origin.now number run.now) }
+    ensures range { OnOk result (MayBeInRange (labels figures.now) run.now) }
 {
     let mut fields = Vec::new(alloc);
     put_origin(alloc, &mut fields, origin)?;
