@@ -1,8 +1,10 @@
 -- Rows of runs that follow one another.
 use Rattle.std.proofs.Common.{arith, ◌∙◌, ◌++◌, sym, ap}
 use Rattle.std.proofs.lemmas.List.{length-append}
+use Rattle.std.proofs.lemmas.List.Elements.{All-append}
 use Rattle.gw_figures.specs.Labels.{labels_of}
 use Rattle.gw_study.proofs.Following.{following}
+use Rattle.gw_rows.specs.Reading.{MayBeInRange}
 use Rattle.gw_rows.specs.Rows.{rows_from}
 use Rattle.gw_rows.proofs.Following.{rows_follow}
 use Rattle.gw_shards.specs.Rows.{source}
@@ -18,6 +20,8 @@ shards_join common point first middle end rows more a b =
     record {
       runs = a.runs ++ b.runs;
       number = omega (arith, longer, a.number, b.number);
+      range = All-append (MayBeInRange labels) a.runs b.runs a.range b.range;
+      may = a.may;
       lone = following point.spec common.from first middle a.runs b.runs a.lone a.number b.lone;
       text_is = rw (a.text_is, b.text_is) (sym (joined ∙ there));
     }

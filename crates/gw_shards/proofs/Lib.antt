@@ -1,3 +1,4 @@
 pub mod Joining
 pub mod Adding
 pub mod Answering
+pub mod Runs

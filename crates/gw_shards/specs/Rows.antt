@@ -1,9 +1,11 @@
 -- Rows of runs of a model's points.
-use Rattle.std.specs.Prelude.{◌≡◌, ◌⊎◌, ℕ, ◌+◌, List, [], ◌∷◌, ◌++◌, length, Result, OnOk, Vec, if◌then◌else◌}
+use Rattle.std.specs.Prelude.{◌≡◌, ◌⊎◌, ◌<◌, ◌≤◌, ℕ, ◌+◌, ◌^◌, List, [], ◌∷◌, ◌++◌, length, Result, OnOk, Vec, if◌then◌else◌}
 use Rattle.std.specs.Global.{Global}
+use Rattle.std.specs.List.{All}
 use Rattle.std.specs.Str.{bytes_eq}
 use Rattle.hex.specs.Hex.{encode_lower}
 use Rattle.sha2.specs.Sha256.{sha256}
+use Rattle.gw_object.specs.Grammar.{HasSpelling}
 use Rattle.gw_answers.specs.Status.{end_status, refusal_status}
 use Rattle.gw_figures.specs.Labels.{labels_of}
 use Rattle.gw_figures.specs.declared.run.Run.{Run}
@@ -12,6 +14,7 @@ use Rattle.gw_study.specs.Table.{Adds}
 use Rattle.gw_alternatives.specs.Alternatives.{ArePoints}
 use Rattle.gw_alternatives.specs.declared.alternative.Alternative.{Alternative}
 use Rattle.gw_rows.specs.Names.{header}
+use Rattle.gw_rows.specs.Reading.{MayBeInRange}
 use Rattle.gw_rows.specs.Refusals.{refusal_rows}
 use Rattle.gw_rows.specs.Rows.{Source, rows_from}
 use Rattle.gw_shards.specs.declared.request.RowsRequest.{RowsRequest}
@@ -36,11 +39,20 @@ source common point =
 abbrev pub view : declared_rows.Common → Common
 view common = record { model = common.model.now; rows = common.rows; from = common.from }
 
+-- what can be read is said of a point's runs: their count and where their window begins are in range, and the object has a spelling
+pub record MayBeRead (common : Common) (point : Alternative) : Type 0 where
+  pub least : 1 ≤ point.spec.count
+  pub most : point.spec.count ≤ 2 ^ 40
+  pub from : common.from < 2 ^ 64
+  pub spelled : HasSpelling point.spec.parts
+
 -- the rows of the lone runs of a point from one number to another, but not that one, in order
 pub record AreRowsOf (common : Common) (point : Alternative) (first end : ℕ) (text : List ℕ) : Type 0 where
   pub runs : List Run
   pub number : first + length runs ≡ end
   pub lone : AreRunsFrom point.spec common.from first runs
+  pub range : All (MayBeInRange (labels_of point.spec.parts)) runs
+  pub may : MayBeRead common point
   pub text_is : text ≡ rows_from (labels_of point.spec.parts) (source common point) first runs
 
 -- such rows are added

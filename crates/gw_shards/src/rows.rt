@@ -1,8 +1,11 @@
 //! The rows of runs of a model's points.
 
 ghost use Rattle.std.specs.Prelude.{◌≡◌, ◌≤◌, ◌<◌, ◌+◌, ◌++◌, ◌∷◌, [], length, map, IfOk, OnOk};
+ghost use Rattle.std.specs.List.{All};
 ghost use Rattle.gw_answers.specs.Status.{end_status, refusal_status};
+ghost use Rattle.gw_figures.specs.Labels.{labels};
 ghost use Rattle.gw_rows.specs.Refusals.{refusal_rows};
+ghost use Rattle.gw_rows.specs.Reading.{MayBeInRange};
 ghost use Rattle.gw_rows.specs.Rows.{rows_by, source_of};
 ghost use Rattle.gw_shards.specs.Rows as model;
 ghost use Rattle.gw_shards.specs.Rows.{AreRequestRows, view};
@@ -33,8 +36,10 @@ pub(crate) struct Common<'a> {
 }
 
 /// Of what the runs of a point are some.
+#[tactic(auto, using(crate::proofs::Runs::may_be_read))]
 fn origin_of(alloc: Global, common: &Common<'_>, point: &Alternative) -> Result<Origin, Memory>
-    ensures { IfOk result (λ origin. source_of origin ≡ model.source (model.view common.now) point.now) }
+    ensures source { IfOk result (λ origin. source_of origin ≡ model.source (model.view common.now) point.now) }
+    ensures may { OnOk result (model.MayBeRead (model.view common.now) point.now) }
 {
     let mut model = Vec::new(alloc);
     model.extend_from_slice(common.model)?;
@@ -59,8 +64,9 @@ fn put_rows(
     runs: &[Run],
 ) -> Result<(), Memory>
     requires { first + length runs.now ≤ 512 }
-    ensures { OnOk result
+    ensures rows { OnOk result
         (out.new.items ≡ out.old.items ++ rows_by figures.now origin.now first runs.now) }
+    ensures range { OnOk result (All (MayBeInRange (labels figures.now)) runs.now) }
 {
     for i in 0..runs.len() {
         let number = first + i as u32;
