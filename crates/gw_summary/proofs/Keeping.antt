@@ -8,9 +8,8 @@ use Rattle.std.specs.Str.{bytes_eq}
 use Rattle.std.proofs.lemmas.List.{append_assoc}
 use Rattle.std.proofs.lemmas.List.Elements.{Contains-append_left, Contains-append_right}
 use Rattle.std.proofs.lemmas.Slice.Eq.{bytes_eq-Decides}
-use Rattle.gw_summary.specs.Adding.{addition_to, has}
+use Rattle.gw_summary.specs.Adding.{Line, addition_to, has}
 use Rattle.gw_summary.specs.Keeping.{AddsLine, OneMore, lines_at, lines_of}
-use Rattle.gw_summary.specs.Telling.{Line}
 use Rattle.gw_summary.specs.declared.point.Adding.{Adding}
 use Rattle.gw_summary.specs.declared.point.Adding.TheVariants.{New, Again, Unlike}
 use Rattle.gw_summary.specs.declared.point.PointRows.{PointRows}

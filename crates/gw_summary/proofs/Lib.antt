@@ -1,8 +1,17 @@
+pub mod Complete
 pub mod Fronts
+pub mod HoldingLines
+pub mod HoldingPoints
+pub mod HoldingRows
 pub mod Keeping
+pub mod LastPlaces
 pub mod Lines
+pub mod Names
 pub mod Points
 pub mod Reading
 pub mod Results
+pub mod Splitting
+pub mod StudyReading
 pub mod Summing
 pub mod Taking
+pub mod WholeStudies

@@ -6,7 +6,8 @@ use Rattle.std.proofs.lemmas.List.{append_assoc, append-nil}
 use Rattle.gw_figures.specs.Labels.{Label}
 use Rattle.gw_figures.specs.declared.run.Run.{Run}
 use Rattle.gw_rows.specs.Rows.{Source}
-use Rattle.gw_summary.specs.Telling.{Line, IsRunOfLine, LinesTell, with_run}
+use Rattle.gw_summary.specs.Adding.{Line}
+use Rattle.gw_summary.specs.Telling.{IsRunOfLine, LinesTell, with_run}
 
 before_rest : (run : Option Run) (rest : List Run) → with_run run [] ++ rest ≡ with_run run rest
 before_rest None rest = refl

@@ -11,7 +11,7 @@ use Rattle.gw_summary.specs.Keeping.{IsRead, IsTaken, IsWithoutFeed, Takes, kept
 use Rattle.gw_summary.specs.declared.pieces.Pieces.{Pieces}
 use Rattle.gw_summary.specs.declared.rows.Rows.{Rows}
 
-pub read_on : (before bytes : List ℕ) (old new : Pieces) → new.rows ≡ old.rows → new.rest.items ≡ old.rest.items ++ bytes → IsWithoutFeed bytes
+unfoldable pub read_on : (before bytes : List ℕ) (old new : Pieces) → new.rows ≡ old.rows → new.rest.items ≡ old.rest.items ++ bytes → IsWithoutFeed bytes
     → IsRead before old → IsRead (before ++ bytes) new
 read_on before bytes old new same rest none read = record {
   lines = read.lines;
@@ -25,7 +25,7 @@ read_on before bytes old new same rest none read = record {
   each = λ t h. subst (λ (r : Rows). IsTaken r t) (sym same) (read.each t h);
 }
 
-pub line_ended : (before : List ℕ) (old new : Pieces) → new.rest.items ≡ [] → Takes (old.rest.items ∷ []) old.rows new.rows
+unfoldable pub line_ended : (before : List ℕ) (old new : Pieces) → new.rest.items ≡ [] → Takes (old.rest.items ∷ []) old.rows new.rows
     → IsRead before old → IsRead (before ++ 10 ∷ []) new
 line_ended before old new rest takes read = record {
   lines = read.lines ++ old.rest.items ∷ [];
@@ -70,7 +70,7 @@ abbrev pub IsReadTo : List ℕ → ℕ → ℕ → Pieces → Pieces → Type 0
 IsReadTo piece start i first now =
     (start ≤ i) × ((before : List ℕ) → IsRead before first → IsRead (before ++ take start piece) now) × IsWithoutFeed (between start i piece)
 
-front_ended : (before piece : List ℕ) (start i : ℕ) → start ≤ i → i < length piece → get_or piece i 0 ≡ 10
+pub front_ended : (before piece : List ℕ) (start i : ℕ) → start ≤ i → i < length piece → get_or piece i 0 ≡ 10
     → ((before ++ take start piece) ++ between start i piece) ++ 10 ∷ [] ≡ before ++ take (i + 1) piece
 front_ended before piece start i h below feed =
     ap (λ bs. bs ++ 10 ∷ []) (append_assoc before (take start piece) (between start i piece))

@@ -26,7 +26,8 @@ pub run_of_row : {E : Type 0} (named : List Label) (there : Source) (number : �
     → IfOk r (IsRunOfLine named there number (Some line))
 run_of_row named there number line read (Ok told) here is by_source by_number =
     let of_source = subst (λ (s : Source). IsLine line.items (row named s read.number read.run)) by_source here.row_is.1 in
-    (read.run, subst (λ (n : ℕ). IsLine line.items (row named there n read.run)) by_number of_source, is)
+    let line_is = subst (λ (n : ℕ). IsLine line.items (row named there n read.run)) by_number of_source in
+    (read.run, record { line_is = line_is; figures = here.figures; range = here.range }, is)
 run_of_row named there number line read (Err e) here is by_source by_number = tt
 
 pub model_of : {E : Type 0} (rows : Rows) (study : Study) (request : SummaryRequest) (point : PointRows) (results : Results) (asked : StudyRequest) (r :

@@ -14,14 +14,14 @@ pub then_ok : {T E A B : Type 0} (r : Result T E) → (A → B) → OnOk r A →
 then_ok (Ok x) f h = f h
 then_ok (Err e) f h = tt
 
-none_there : {A : Type 0} (line : List ℕ) → Contains [] line → A
+pub none_there : {A : Type 0} (line : List ℕ) → Contains [] line → A
 none_there line h = absurd (omega (arith, h.1))
 
 itself : (line : List ℕ) → Contains (line ∷ []) line
 itself line = (0, omega arith, refl)
 
 -- the one of one
-only : (line t : List ℕ) → Contains (line ∷ []) t → line ≡ t
+pub only : (line t : List ℕ) → Contains (line ∷ []) t → line ≡ t
 only line t h = by_cases (Contains-push_cases [] line t h)
   where
     by_cases : Contains [] t ⊎ (line ≡ t) → line ≡ t

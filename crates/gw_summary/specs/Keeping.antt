@@ -89,6 +89,10 @@ pub record IsRead (bytes : List ℕ) (pieces : Pieces) : Type 0 where
   pub from : (line : List ℕ) → Contains (kept_lines pieces.rows) line → Contains lines line
   pub each : (line : List ℕ) → Contains lines line → IsTaken pieces.rows line
 
+-- bytes behind others that were read are read too
+abbrev pub ReadsBytes : List ℕ → Pieces → Pieces → Type 0
+ReadsBytes bytes old new = (before : List ℕ) → IsRead before old → IsRead (before ++ bytes) new
+
 -- the lines of points are just those of bytes that aren't headers
 pub record AreRowsOf (bytes : List ℕ) (points : List PointRows) : Type 0 where
   pub lines : List (List ℕ)

@@ -1,8 +1,7 @@
 -- What rows of one study tell.
-use Rattle.std.specs.Prelude.{◌≡◌, ◌⊎◌, ◌≤◌, ◌<◌, ℕ, ◌+◌, ◌-◌, ◌/◌, ◌%◌, nat_le, List, [], ◌∷◌, length, vec_len, slice_get, Option, None, Some, Bool}
+use Rattle.std.specs.Prelude.{◌≡◌, ◌⊎◌, ℕ, ◌+◌, List, [], ◌∷◌, vec_len, Option, None, Some, Bool}
 use Rattle.std.specs.Prelude.{Vec, Result, IfOk, OnOk}
 use Rattle.std.specs.Global.{Global}
-use Rattle.std.specs.List.{All}
 use Rattle.gw_answers.specs.Status.{end_status, refusal_status}
 use Rattle.gw_figures.specs.Labels.{Label, labels}
 use Rattle.gw_figures.specs.declared.figure.Figure.{Figure}
@@ -13,38 +12,16 @@ use Rattle.gw_study.specs.declared.request.StudyRequest.{StudyRequest}
 use Rattle.gw_study.specs.declared.telling.Results.{Results}
 use Rattle.gw_comparison.specs.declared.point.Point.{Point}
 use Rattle.gw_alternatives.specs.Told.{IsTableOf, IsPointBy, AddsBlock, AddsAllDifferences}
-use Rattle.gw_rows.specs.Reading.{IsLine, NamesFigures}
+use Rattle.gw_rows.specs.Reading.{HasFigures, IsLine, IsRunInRange, NamesFigures}
 use Rattle.gw_rows.specs.Rows.{Source, row}
-use Rattle.gw_summary.specs.Adding.{has}
+use Rattle.gw_summary.specs.Adding.{Line}
+use Rattle.gw_summary.specs.Complete.{AreComplete}
 use Rattle.gw_summary.specs.Keeping.{AreRowsOf, IsRead}
 use Rattle.gw_summary.specs.declared.pieces.Pieces.{Pieces}
 use Rattle.gw_summary.specs.declared.point.PointRows.{PointRows}
 use Rattle.gw_summary.specs.declared.rows.Rows.{Rows}
 use Rattle.gw_summary.specs.declared.study.Study.{Study}
 use Rattle.gw_summary.specs.declared.telling.SummaryRequest.{SummaryRequest}
-
--- the line of a run, if it has one
-abbrev pub Line : Type 0
-Line = Option (Vec ℕ Global)
-
--- WHICH RUNS ARE THERE
-
--- just the runs from one number to another, but not that one, have lines
-pub record IsWhole (lines : List Line) (first end : ℕ) : Type 0 where
-  pub few : length lines ≤ end
-  pub each : (number : ℕ) → number < end → has (slice_get lines number) ≡ nat_le first number
-
--- a run is the first of the study of this number whose last run is before another
-abbrev pub IsFirstOf : ℕ → ℕ → ℕ → Type 0
-IsFirstOf end seeds first = (0 < seeds) × (end % seeds ≡ 0) × (first ≡ end - end / seeds)
-
--- each point has just the runs of the study of this number
-pub record AreComplete (points : List PointRows) (seeds : ℕ) : Type 0 where
-  pub first : ℕ
-  pub end : ℕ
-  pub study : IsFirstOf end seeds first
-  pub few : end ≤ 512
-  pub each : All (λ p. IsWhole p.lines.items first end) points
 
 -- WHAT THEY TELL
 
@@ -58,10 +35,16 @@ source study point = record {
   from = study.origin.from;
 }
 
+-- a line is the row of a run with these figures, whose numbers are in the ranges of their types
+pub record IsRunOfRow (labels : List Label) (source : Source) (number : ℕ) (line : List ℕ) (run : Run) : Type 0 where
+  pub line_is : IsLine line (row labels source number run)
+  pub figures : HasFigures labels run
+  pub range : IsRunInRange run
+
 -- the run that the line of a number tells, if there is a line: that of the row which it is
 abbrev pub IsRunOfLine : List Label → Source → ℕ → Line → Option Run → Type 0
 IsRunOfLine labels source number None run = run ≡ None
-IsRunOfLine labels source number (Some line) run = (told : Run) × IsLine line.items (row labels source number told) × (run ≡ Some told)
+IsRunOfLine labels source number (Some line) run = (told : Run) × IsRunOfRow labels source number line.items told × (run ≡ Some told)
 
 -- a run before others, if it is there
 abbrev pub with_run : Option Run → List Run → List Run

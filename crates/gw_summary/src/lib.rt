@@ -3,6 +3,7 @@
 #![tactic(auto)]
 
 mod fault;
+mod gaps;
 mod parameters;
 mod pieces;
 mod point;

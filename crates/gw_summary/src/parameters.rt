@@ -1,5 +1,9 @@
 //! The numbers of a point, by what it is called.
 
+ghost use Rattle.std.specs.Prelude.{◌≡◌, ◌↔◌, [], IfOk, IsTrue};
+ghost use Rattle.gw_rows.specs.Rows.{texts};
+ghost use Rattle.gw_summary.specs.Holding.{HasNoNames};
+
 use gw_object::Memory;
 use gw_points::{NoPoint, Parameter, parameter_in};
 use itoa::Buffer;
@@ -75,7 +79,9 @@ fn if_called(alloc: Global, numbers: Numbers, point: &[u8]) -> Result<Option<Num
 }
 
 /// The names and numbers of a point that is called so, if one can be called so: `NURSES=2 BEDS=3`. The model as it is has none.
-pub(crate) fn numbers_in(alloc: Global, point: &[u8]) -> Result<Option<Numbers>, Memory> {
+pub(crate) fn numbers_in(alloc: Global, point: &[u8]) -> Result<Option<Numbers>, Memory>
+    ensures { point.now ≡ [] → IfOk result HasNoNames }
+{
     if point.is_empty() {
         return Ok(Some(Numbers {
             names: Vec::new(alloc),
@@ -89,7 +95,9 @@ pub(crate) fn numbers_in(alloc: Global, point: &[u8]) -> Result<Option<Numbers>,
 }
 
 /// Whether two points have the same names.
-pub(crate) fn are_alike(first: &[Vec<u8>], second: &[Vec<u8>]) -> bool {
+pub(crate) fn are_alike(first: &[Vec<u8>], second: &[Vec<u8>]) -> bool
+    ensures { IsTrue result ↔ (texts first.now ≡ texts second.now) }
+{
     if first.len() != second.len() {
         return false;
     }

@@ -1,7 +1,8 @@
 //! Lines out of the pieces in which an input is read.
 
-ghost use Rattle.std.specs.Prelude.{◌≡◌, ◌++◌, ◌∷◌, ℕ, List, [], IsFalse, OnOk};
-ghost use Rattle.gw_summary.specs.Keeping.{IsRead, IsWithoutFeed};
+ghost use Rattle.std.specs.Prelude.{◌≡◌, ◌≢◌, ◌∷◌, [], IsFalse, IsTrue, OnOk};
+ghost use Rattle.gw_summary.specs.Keeping.{IsRead, IsWithoutFeed, ReadsBytes};
+ghost use Rattle.gw_summary.specs.StudyRows.{StudyRuns, IsReadOf, ReadsOn};
 
 use crate::fault::{NoRow, RowFault};
 use crate::rows::Rows;
@@ -24,7 +25,8 @@ pub struct Pieces {
 impl Pieces {
     /// Nothing was read.
     pub fn new(alloc: Global) -> Pieces
-        ensures { IsRead [] result }
+        ensures read { IsRead [] result }
+        ensures study { (s : StudyRuns) → IsReadOf s [] result }
     {
         Pieces {
             rows: Rows::new(alloc),
@@ -48,7 +50,8 @@ impl Pieces {
     /// What comes of the line that isn't whole.
     fn put(&mut self, bytes: &[u8]) -> Result<(), NoRow>
         requires { IsWithoutFeed bytes.now }
-        ensures { OnOk result ((before : List ℕ) → IsRead before self.old → IsRead (before ++ bytes.now) self.new) }
+        ensures read { OnOk result (ReadsBytes bytes.now self.old self.new) }
+        ensures study { (s : StudyRuns) → ReadsOn s bytes.now result self.old self.new }
     {
         if self.rest.len().saturating_add(bytes.len()) > LONGEST {
             return Err(NoRow::Fault(self.line(), RowFault::Long));
@@ -61,7 +64,8 @@ impl Pieces {
 
     /// A line that is whole.
     fn end_line(&mut self, alloc: Global) -> Result<(), NoRow>
-        ensures { OnOk result ((before : List ℕ) → IsRead before self.old → IsRead (before ++ 10 ∷ []) self.new) }
+        ensures read { OnOk result (ReadsBytes (10 ∷ []) self.old self.new) }
+        ensures study { (s : StudyRuns) → ReadsOn s (10 ∷ []) result self.old self.new }
     {
         self.rows
             .add_line(alloc, self.lines.saturating_add(1), &self.rest)?;
@@ -72,7 +76,8 @@ impl Pieces {
 
     /// One more piece of the input.
     pub fn add(&mut self, alloc: Global, piece: &[u8]) -> Result<(), NoRow>
-        ensures { OnOk result ((before : List ℕ) → IsRead before self.old → IsRead (before ++ piece.now) self.new) }
+        ensures read { OnOk result (ReadsBytes piece.now self.old self.new) }
+        ensures study { (s : StudyRuns) → ReadsOn s piece.now result self.old self.new }
     {
         let mut start = 0;
         for i in 0..piece.len() {
@@ -87,7 +92,8 @@ impl Pieces {
 
     /// Whether the last line is cut off.
     pub fn is_cut(&self) -> bool
-        ensures { IsFalse result → self.now.rest.items ≡ [] }
+        ensures whole { IsFalse result → self.now.rest.items ≡ [] }
+        ensures cut { IsTrue result → self.now.rest.items ≢ [] }
     {
         !self.rest.is_empty()
     }

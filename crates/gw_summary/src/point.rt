@@ -1,10 +1,12 @@
 //! The rows of a point.
 
-ghost use Rattle.std.specs.Prelude.{◌≡◌, ◌≤◌, ◌<◌, false, nat_le, vec_len, slice_get, Some, IfNone, IfOk, OnOk};
+ghost use Rattle.std.specs.Prelude.{◌≡◌, ◌≤◌, ◌<◌, max, length, false, vec_len, slice_get, Some, IfNone, IfSome, IfOk, OnOk};
 ghost use Rattle.std.specs.List.{slice_set};
 ghost use Rattle.gw_summary.specs.Adding as model;
 ghost use Rattle.gw_summary.specs.Keeping.{AddsLineTo, OneMore, lines_at};
-ghost use Rattle.gw_summary.specs.Telling.{IsWhole};
+ghost use Rattle.gw_summary.specs.Adding.{IsRight, IsWhole};
+ghost use Rattle.gw_summary.specs.Holding.{HasNoOtherLines, HoldsAlso, PutsLine};
+ghost use Rattle.gw_summary.specs.StudyRows.{StudyRuns};
 
 use crate::fault::RowFault;
 use gw_object::Memory;
@@ -37,6 +39,8 @@ fn fill(lines: &mut Vec<Option<Vec<u8>>>, end: usize) -> Result<(), Memory>
     ensures long { OnOk result (end ≤ vec_len lines.new) }
     ensures same { OnOk result (lines_at lines.new.items ≡ lines_at lines.old.items) }
     ensures has { OnOk result (model.HaveSameRuns lines.old.items lines.new.items) }
+    ensures few { OnOk result (length lines.new.items ≤ max (length lines.old.items) end) }
+    ensures known { OnOk result (HasNoOtherLines lines.new.items lines.old.items) }
 {
     for _ in lines.len()..end {
         lines.push(None)?;
@@ -48,7 +52,8 @@ fn fill(lines: &mut Vec<Option<Vec<u8>>>, end: usize) -> Result<(), Memory>
 fn put_line(lines: &mut Vec<Option<Vec<u8>>>, place: usize, line: Vec<u8>)
     requires place { place < vec_len lines.old }
     requires free { model.has (slice_get lines.old.items place) ≡ false }
-    ensures { OneMore line.items (lines_at lines.old.items) (lines_at lines.new.items) }
+    ensures more { OneMore line.items (lines_at lines.old.items) (lines_at lines.new.items) }
+    ensures items { lines.new.items ≡ slice_set lines.old.items place (Some line) }
 {
     lines[place] = Some(line);
 }
@@ -83,7 +88,8 @@ impl PointRows {
     fn put(&mut self, alloc: Global, number: usize, line: &[u8]) -> Result<(), Memory>
         requires number { number < 512 }
         requires free { model.has (slice_get self.old.lines.items number) ≡ false }
-        ensures { OnOk result (OneMore line.now (lines_at self.old.lines.items) (lines_at self.new.lines.items)) }
+        ensures more { OnOk result (OneMore line.now (lines_at self.old.lines.items) (lines_at self.new.lines.items)) }
+        ensures line { OnOk result (PutsLine number line.now self.old self.new) }
     {
         let copy = copy_of(alloc, line)?;
         fill(&mut self.lines, number + 1)?;
@@ -98,6 +104,7 @@ impl PointRows {
             adding ≡ model.adding_at self.old.lines.items number line.now) }
         ensures lines { IfOk result (λ adding.
             AddsLineTo adding line.now self.old self.new) }
+        ensures study { (s : StudyRuns) → HoldsAlso s number line.now result self.old self.new }
     {
         let number = number as usize;
         let adding = self.adding(number, line);
@@ -120,7 +127,8 @@ impl PointRows {
     /// Why a run is one too many, or misses, of those from one on, if it is so.
     fn fault_at(&self, first: usize, number: usize) -> Option<RowFault>
         requires { number < 512 }
-        ensures { IfNone result (model.has (slice_get self.now.lines.items number) ≡ nat_le first number) }
+        ensures none { IfNone result (IsRight self.now.lines.items first number) }
+        ensures some { IfSome result (λ fault. ¬ IsRight self.now.lines.items first number) }
     {
         match (self.has(number), first <= number) {
             (true, false) => Some(RowFault::Surplus(number as u32)),
@@ -133,7 +141,8 @@ impl PointRows {
     /// that misses, or one behind the last.
     pub(crate) fn fault_between(&self, first: usize, end: usize) -> Option<RowFault>
         requires { end ≤ 512 }
-        ensures { IfNone result (IsWhole self.now.lines.items first end) }
+        ensures none { IfNone result (IsWhole self.now.lines.items first end) }
+        ensures some { IfSome result (λ fault. ¬ IsWhole self.now.lines.items first end) }
     {
         if self.lines.len() > end {
             return Some(RowFault::Surplus(end as u32));

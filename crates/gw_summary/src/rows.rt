@@ -1,10 +1,16 @@
 //! The rows that were read so far.
 
-ghost use Rattle.std.specs.Prelude.{◌≡◌, ◌≤◌, ◌<◌, ◌^◌, ◌+◌, ◌++◌, ◌∷◌, [], true, vec_len, is_some, IfNone, IfOk, IfSome, IsTrue, OnOk};
+ghost use Rattle.std.specs.Prelude.{◌≡◌, ◌≤◌, ◌<◌, ◌^◌, ◌+◌, ◌++◌, ◌∷◌, ◌≢◌, [], true, slice_get, None, vec_len, is_some, IfNone, IfOk, IfSome, IsTrue, OnOk};
 ghost use Rattle.std.specs.List.{insert};
 ghost use Rattle.gw_rows.specs.Reading.{IsInRange};
 ghost use Rattle.gw_summary.specs.Keeping.{HaveSame, IsHeader, Takes, kept_lines, waiting_lines};
 ghost use Rattle.gw_summary.specs.Studies as model;
+ghost use Rattle.gw_summary.specs.StudyRows.{StudyRuns, IsHeld, TakesLineOf};
+ghost use Rattle.gw_summary.specs.Holding.{is_called, AddsLineOf, AddsPoint, AddsRowOf, BeginsStudy, BeginsWith};
+ghost use Rattle.gw_summary.specs.Holding.{FindsHeaderOf, HasNoFault, HasNoPointOf, PlacesRowsOf, Succeeds};
+ghost use Rattle.gw_summary.specs.Holding.{TakesAllRowsOf, TakesNamedRow, TakesReadRow, TakesRowBefore, TakesRowBehind};
+ghost use Rattle.gw_summary.specs.Holding.{TakesRowOf, TakesRowsOf};
+ghost use Rattle.gw_summary.specs.declared.rows.Wrong.TheVariants as wrongs;
 
 use crate::fault::{NoRow, RowFault};
 use crate::parameters::{Numbers, are_alike, is_before, numbers_in};
@@ -26,6 +32,8 @@ pub(crate) enum Wrong {
 }
 
 impl From<Memory> for Wrong {
+    ghost from_gives = { λ _ wrong. wrong ≡ wrongs.Memory };
+
     fn from(_: Memory) -> Wrong {
         Wrong::Memory
     }
@@ -68,6 +76,7 @@ fn insert_point(points: &mut Vec<PointRows>, place: usize, point: PointRows) -> 
     requires { place ≤ vec_len points.old }
     ensures items { OnOk result (points.new.items ≡ insert points.old.items place point) }
     ensures len { OnOk result (vec_len points.new ≡ vec_len points.old + 1) }
+    ensures memory { Succeeds result (λ _. points.new.items ≡ insert points.old.items place point) }
 {
     match points.insert(place, point) {
         Ok(()) => Ok(()),
@@ -77,7 +86,8 @@ fn insert_point(points: &mut Vec<PointRows>, place: usize, point: PointRows) -> 
 
 /// A line behind those that wait.
 fn push_waiting(lines: &mut Vec<Waiting>, line: Waiting) -> Result<(), Wrong>
-    ensures { OnOk result (lines.new.items ≡ lines.old.items ++ line ∷ []) }
+    ensures items { OnOk result (lines.new.items ≡ lines.old.items ++ line ∷ []) }
+    ensures memory { Succeeds result (λ _. lines.new.items ≡ lines.old.items ++ line ∷ []) }
 {
     match lines.push(line) {
         Ok(()) => Ok(()),
@@ -88,7 +98,8 @@ fn push_waiting(lines: &mut Vec<Waiting>, line: Waiting) -> Result<(), Wrong>
 impl Rows {
     /// No row.
     pub fn new(alloc: Global) -> Rows
-        ensures { kept_lines result ≡ [] }
+        ensures none { kept_lines result ≡ [] }
+        ensures study { (s : StudyRuns) → IsHeld s result }
     {
         Rows {
             number: 0,
@@ -138,7 +149,8 @@ impl Rows {
 
     /// The first header of runs.
     fn begin(&mut self, alloc: Global, line: &[u8], figures: Vec<Figure>) -> Result<(), Wrong>
-        ensures { OnOk result (HaveSame self.old self.new) }
+        ensures same { OnOk result (HaveSame self.old self.new) }
+        ensures header { Succeeds result (λ _. BeginsWith line.now figures self.old self.new) }
     {
         let mut header = Vec::new(alloc);
         header.extend_from_slice(line)?;
@@ -151,6 +163,7 @@ impl Rows {
     fn add_header(&mut self, alloc: Global, line: &[u8]) -> Result<bool, Wrong>
         ensures same { OnOk result (HaveSame self.old self.new) }
         ensures header { IfOk result (λ found. IsTrue found → IsHeader line.now) }
+        ensures study { (s : StudyRuns) → FindsHeaderOf s line.now result self.old self.new }
     {
         match figures_in(alloc, line)? {
             Some(figures) => {
@@ -178,7 +191,9 @@ impl Rows {
     }
 
     /// What of a row isn't that of the rows before, if anything isn't.
-    fn fault_of(&self, origin: &Origin, names: &[Vec<u8>]) -> Option<RowFault> {
+    fn fault_of(&self, origin: &Origin, names: &[Vec<u8>]) -> Option<RowFault>
+        ensures { (s : StudyRuns) → HasNoFault s origin.now names.now self.now result }
+    {
         if !self.is_of_model(&origin.model) {
             return Some(RowFault::OtherModel);
         }
@@ -198,7 +213,8 @@ impl Rows {
 
     /// Whether the point at a place is called so.
     fn is_at(&self, place: usize, name: &[u8]) -> bool
-        ensures { IsTrue result → place < vec_len self.now.points }
+        ensures within { IsTrue result → place < vec_len self.now.points }
+        ensures called { result ≡ is_called (slice_get self.now.points.items place) name.now }
     {
         match self.points.get(place) {
             Some(point) => point.name.as_slice() == name,
@@ -208,7 +224,8 @@ impl Rows {
 
     /// The place of a point, if it is there.
     fn place_of(&self, name: &[u8]) -> Option<usize>
-        ensures { IfSome result (λ place. place < vec_len self.now.points) }
+        ensures within { IfSome result (λ place. place < vec_len self.now.points) }
+        ensures none { IfNone result (HasNoPointOf name.now self.now.points.items) }
     {
         if self.is_at(self.place, name) {
             return Some(self.place);
@@ -237,6 +254,7 @@ impl Rows {
     fn add_point(&mut self, alloc: Global, name: &[u8], values: Vec<i64>) -> Result<usize, Wrong>
         ensures place { IfOk result (λ place. place < vec_len self.new.points) }
         ensures same { OnOk result (HaveSame self.old self.new) }
+        ensures added { Succeeds result (λ _. AddsPoint name.now self.old self.new) }
     {
         let place = self.place_for(&values);
         let mut copy = Vec::new(alloc);
@@ -253,7 +271,8 @@ impl Rows {
     /// The line of a run of the point at a place.
     fn add_at(&mut self, alloc: Global, place: usize, number: u32, line: &[u8]) -> Result<(), Wrong>
         requires { (place < vec_len self.old.points) × (number < 512) }
-        ensures { OnOk result (Takes (line.now ∷ []) self.old self.new) }
+        ensures takes { OnOk result (Takes (line.now ∷ []) self.old self.new) }
+        ensures study { (s : StudyRuns) → AddsRowOf s number line.now result self.old self.new }
     {
         self.place = place;
         match self.points[place].add(alloc, number, line)? {
@@ -270,6 +289,7 @@ impl Rows {
     fn place_with(&mut self, alloc: Global, name: &[u8], values: Vec<i64>) -> Result<usize, Wrong>
         ensures place { IfOk result (λ place. place < vec_len self.new.points) }
         ensures same { OnOk result (HaveSame self.old self.new) }
+        ensures study { (s : StudyRuns) → PlacesRowsOf s name.now result self.old self.new }
     {
         match self.place_of(name) {
             Some(place) => {
@@ -283,7 +303,8 @@ impl Rows {
     /// What rows have in common, if this one is the first.
     fn begin_study(&mut self, origin: Origin, names: Vec<Vec<u8>>)
         requires { (1 ≤ origin.count) × (origin.count ≤ 2 ^ 40) }
-        ensures { self.new ≡ record self.old { study = self.new.study } }
+        ensures others { self.new ≡ record self.old { study = self.new.study } }
+        ensures study { (s : StudyRuns) → BeginsStudy s origin names.items self.old self.new }
     {
         if self.study.is_none() {
             self.study = Some(Study { origin, names });
@@ -299,7 +320,9 @@ impl Rows {
         line: &[u8],
     ) -> Result<(), Wrong>
         requires { IsInRange row }
-        ensures { OnOk result (Takes (line.now ∷ []) self.old self.new) }
+        ensures takes { OnOk result (Takes (line.now ∷ []) self.old self.new) }
+        ensures study { (s : StudyRuns) →
+            TakesNamedRow s numbers.names.items row line.now result self.old self.new }
     {
         let Numbers { names, values } = numbers;
         let place = self.place_with(alloc, &row.origin.point, values)?;
@@ -311,7 +334,8 @@ impl Rows {
     /// A row and its line.
     fn add_row(&mut self, alloc: Global, row: Row, line: &[u8]) -> Result<(), Wrong>
         requires { IsInRange row }
-        ensures { OnOk result (Takes (line.now ∷ []) self.old self.new) }
+        ensures takes { OnOk result (Takes (line.now ∷ []) self.old self.new) }
+        ensures study { (s : StudyRuns) → TakesReadRow s row line.now result self.old self.new }
     {
         match numbers_in(alloc, &row.origin.point)? {
             Some(numbers) => match self.fault_of(&row.origin, &numbers.names) {
@@ -347,7 +371,8 @@ impl Rows {
 
     /// A line behind a header of runs: a row, or a refusal.
     fn add_behind(&mut self, alloc: Global, line: &[u8]) -> Result<(), Wrong>
-        ensures { OnOk result (Takes (line.now ∷ []) self.old self.new) }
+        ensures takes { OnOk result (Takes (line.now ∷ []) self.old self.new) }
+        ensures study { (s : StudyRuns) → TakesRowBehind s line.now result self.old self.new }
     {
         match row_in(alloc, line, &self.figures)? {
             Some(row) => self.add_row(alloc, row, line),
@@ -360,7 +385,8 @@ impl Rows {
 
     /// A line before any header of runs: a refusal, or it waits.
     fn add_before(&mut self, alloc: Global, line: &[u8]) -> Result<(), Wrong>
-        ensures { OnOk result (Takes (line.now ∷ []) self.old self.new) }
+        ensures takes { OnOk result (Takes (line.now ∷ []) self.old self.new) }
+        ensures study { (s : StudyRuns) → TakesRowBefore s line.now result self.old self.new }
     {
         match refused_in(alloc, line)? {
             Some(refused) => self.add_refused(refused),
@@ -370,7 +396,8 @@ impl Rows {
 
     /// A line that waits for a header.
     fn wait(&mut self, alloc: Global, line: &[u8]) -> Result<(), Wrong>
-        ensures { OnOk result (Takes (line.now ∷ []) self.old self.new) }
+        ensures takes { OnOk result (Takes (line.now ∷ []) self.old self.new) }
+        ensures study { (s : StudyRuns) → TakesRowBefore s line.now result self.old self.new }
     {
         let mut copy = Vec::with_capacity(alloc, line.len())?;
         copy.extend_from_slice(line)?;
@@ -383,7 +410,8 @@ impl Rows {
 
     /// A line that is no header.
     fn add_other(&mut self, alloc: Global, line: &[u8]) -> Result<(), Wrong>
-        ensures { OnOk result (Takes (line.now ∷ []) self.old self.new) }
+        ensures takes { OnOk result (Takes (line.now ∷ []) self.old self.new) }
+        ensures study { (s : StudyRuns) → TakesRowOf s line.now result self.old self.new }
     {
         if self.header.is_empty() {
             self.add_before(alloc, line)
@@ -394,7 +422,8 @@ impl Rows {
 
     /// The lines that waited.
     fn add_waiting(&mut self, alloc: Global, waiting: &[Waiting]) -> Result<(), Wrong>
-        ensures { OnOk result (Takes (waiting_lines waiting.now) self.old self.new) }
+        ensures takes { OnOk result (Takes (waiting_lines waiting.now) self.old self.new) }
+        ensures study { (s : StudyRuns) → TakesRowsOf s waiting.now result self.old self.new }
     {
         for i in 0..waiting.len() {
             self.number = waiting[i].number;
@@ -405,7 +434,8 @@ impl Rows {
 
     /// The lines that waited, once there is a header.
     fn add_all_waiting(&mut self, alloc: Global) -> Result<(), Wrong>
-        ensures { OnOk result (Takes [] self.old self.new) }
+        ensures takes { OnOk result (Takes [] self.old self.new) }
+        ensures study { (s : StudyRuns) → TakesAllRowsOf s result self.old self.new }
     {
         let waiting = mem::replace(&mut self.waiting, Vec::new(alloc));
         self.add_waiting(alloc, &waiting)
@@ -413,7 +443,8 @@ impl Rows {
 
     /// One more line: a header, or a row.
     fn add(&mut self, alloc: Global, line: &[u8]) -> Result<(), Wrong>
-        ensures { OnOk result (Takes (line.now ∷ []) self.old self.new) }
+        ensures takes { OnOk result (Takes (line.now ∷ []) self.old self.new) }
+        ensures study { (s : StudyRuns) → AddsLineOf s line.now result self.old self.new }
     {
         if is_refusal_header(line) {
             return Ok(());
@@ -429,7 +460,8 @@ impl Rows {
     /// there already changes nothing; one before any header waits for it. Where a line is refused, it is this one, or one that
     /// waited.
     pub fn add_line(&mut self, alloc: Global, number: u64, line: &[u8]) -> Result<(), NoRow>
-        ensures { OnOk result (Takes (line.now ∷ []) self.old self.new) }
+        ensures takes { OnOk result (Takes (line.now ∷ []) self.old self.new) }
+        ensures study { (s : StudyRuns) → TakesLineOf s line.now result self.old self.new }
     {
         self.number = number;
         match self.add(alloc, line) {
@@ -441,7 +473,8 @@ impl Rows {
 
     /// The number of the first line that waits for a header, if one does.
     pub(crate) fn first_waiting(&self) -> Option<u64>
-        ensures { IfNone result (self.now.waiting.items ≡ []) }
+        ensures none { IfNone result (self.now.waiting.items ≡ []) }
+        ensures some { IfSome result (λ _. self.now.waiting.items ≢ []) }
     {
         match self.waiting.as_slice() {
             [waiting, ..] => Some(waiting.number),

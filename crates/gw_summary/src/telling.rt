@@ -1,15 +1,17 @@
 //! What rows tell.
 
-ghost use Rattle.std.specs.Prelude.{◌≡◌, ◌≤◌, ◌+◌, ◌++◌, [], Some, length, IfOk, IfNone, IfSome, IsTrue, OnOk, vec_len};
+ghost use Rattle.std.specs.Prelude.{◌≡◌, ◌≤◌, ◌+◌, ◌++◌, [], Some, length, IfOk, IsTrue, OnOk, vec_len};
 ghost use Rattle.std.specs.List.{All};
 ghost use Rattle.gw_figures.specs.Labels.{labels};
 ghost use Rattle.gw_rows.specs.Reading.{NamesFigures};
 ghost use Rattle.gw_rows.specs.Rows.{source_of};
+ghost use Rattle.gw_summary.specs.StudyTold as told;
 ghost use Rattle.gw_summary.specs.Telling as model;
 ghost use Rattle.gw_answers.specs.Requests.{AnswersAs};
 ghost use Rattle.gw_answers.specs.Status.{refusal_status};
 
 use crate::fault::{RowFault, refusal_of};
+use crate::gaps::gap_of;
 use crate::pieces::Pieces;
 use crate::point::PointRows;
 use crate::rows::Rows;
@@ -31,83 +33,6 @@ pub struct SummaryRequest {
     pub seeds: u32,
     /// Whether all figures are told.
     pub all: bool,
-}
-
-/// All runs have a number below this.
-const MOST_RUNS: usize = 512;
-
-/// The run behind the greatest of all points.
-fn end_of(points: &[PointRows]) -> usize
-    ensures { result ≤ 512 }
-{
-    let mut end = 0;
-    for i in 0..points.len() {
-        end = end.max(points[i].lines.len().min(MOST_RUNS));
-    }
-    end
-}
-
-/// Why rows aren't those of all runs of a study: what is wrong, and the point at which it is.
-#[derive(Clone, Copy)]
-struct Gap<'a> {
-    fault: RowFault,
-    point: &'a [u8],
-}
-
-/// Why points don't have all the runs from one to another, but not that one, and no other, if they haven't.
-fn gap_between(points: &[PointRows], first: usize, end: usize) -> Option<Gap<'_>>
-    requires { end ≤ 512 }
-    ensures { IfNone result (All (λ p. model.IsWhole p.lines.items first end) points.now) }
-{
-    for i in 0..points.len() {
-        if let Some(fault) = points[i].fault_between(first, end) {
-            return Some(Gap {
-                fault,
-                point: &points[i].name,
-            });
-        }
-    }
-    None
-}
-
-/// Why there aren't as many rows as they say themselves, if they say it and there aren't.
-fn gap_of_count<'a>(rows: &'a Rows, study: &Study) -> Option<Gap<'a>> {
-    if study.origin.rows != 0 && study.origin.rows != rows.count() {
-        Some(Gap {
-            fault: RowFault::Few(rows.count(), study.origin.rows),
-            point: &[],
-        })
-    } else {
-        None
-    }
-}
-
-/// The first run of the study of this number whose last run is before this one; none where no study of so many runs ends there.
-fn first_of(end: usize, seeds: u32) -> Option<usize>
-    ensures { IfSome result (model.IsFirstOf end seeds) }
-{
-    let seeds = seeds as usize;
-    if seeds == 0 || end % seeds != 0 {
-        return None;
-    }
-    Some(end - end / seeds)
-}
-
-/// Why rows aren't those of all runs of a study, if they aren't.
-fn gap_of<'a>(rows: &'a Rows, study: &Study, seeds: u32) -> Option<Gap<'a>>
-    ensures { IfNone result (model.AreComplete rows.now.points.items seeds) }
-{
-    let end = end_of(rows.points());
-    match first_of(end, seeds) {
-        Some(first) => match gap_between(rows.points(), first, end) {
-            Some(gap) => Some(gap),
-            None => gap_of_count(rows, study),
-        },
-        None => Some(Gap {
-            fault: RowFault::Missing(end as u32),
-            point: &[],
-        }),
-    }
 }
 
 /// Whether a row is that of a run of a point of a study.
@@ -353,7 +278,8 @@ fn told(
     request: SummaryRequest,
 ) -> Result<Vec<u8>, Memory>
     requires { All (λ p. vec_len p.lines ≤ 512) rows.now.points.items }
-    ensures { IfOk result (λ text. model.TellsRows rows.now study.now request text.items) }
+    ensures rows { IfOk result (λ text. model.TellsRows rows.now study.now request text.items) }
+    ensures alone { told.TellsLonePoint result rows.now study.now request }
 {
     match rows.points() {
         [point] if point.name.is_empty() => model_told(alloc, rows, study, point, request),
@@ -381,7 +307,8 @@ fn summary_of(
 ) -> Result<Answer, Memory>
     requires study { rows.now.study ≡ Some study.now }
     requires only { model.HasOnlyRows rows.now }
-    ensures { AnswersAs result (model.IsSummary rows.now request) }
+    ensures summary { AnswersAs result (model.IsSummary rows.now request) }
+    ensures study { AnswersAs result (told.TellsHeld rows.now request) }
 {
     match gap_of(rows, study, request.seeds) {
         Some(gap) => refusal(alloc, line, gap.point, gap.fault),
@@ -412,7 +339,8 @@ fn rows_told(
     request: SummaryRequest,
 ) -> Result<Answer, Memory>
     requires { rows.now.waiting.items ≡ [] }
-    ensures { AnswersAs result (model.IsSummary rows.now request) }
+    ensures summary { AnswersAs result (model.IsSummary rows.now request) }
+    ensures study { AnswersAs result (told.TellsHeld rows.now request) }
 {
     match (rows.refused(), rows.study()) {
         (Some(refused), _) => refused_by(alloc, refused),
@@ -428,7 +356,8 @@ fn lines_told(
     line: u64,
     request: SummaryRequest,
 ) -> Result<Answer, Memory>
-    ensures { AnswersAs result (model.IsSummary rows.now request) }
+    ensures summary { AnswersAs result (model.IsSummary rows.now request) }
+    ensures study { AnswersAs result (told.TellsHeld rows.now request) }
 {
     match rows.first_waiting() {
         Some(first) => refusal(alloc, first, &[], RowFault::NoHeader),
@@ -440,7 +369,8 @@ fn lines_told(
 /// each, in the order of their numbers, and then the differences of each to the first. A refusal that a row tells is told. Rows are
 /// refused (84 Row) that aren't those of all runs of a study, each once, and a line that is cut off.
 pub fn summary(alloc: Global, pieces: &Pieces, request: SummaryRequest) -> Result<Answer, Memory>
-    ensures { AnswersAs result (model.IsSummaryOfPieces pieces.now request) }
+    ensures summary { AnswersAs result (model.IsSummaryOfPieces pieces.now request) }
+    ensures study { AnswersAs result (told.TellsStudiesRead pieces.now request) }
 {
     if pieces.is_cut() {
         return refusal(alloc, pieces.line(), &[], RowFault::Cut);

@@ -1,6 +1,7 @@
 use Rattle.std.proofs.Common.{IfOk, sym, subst}
 use Rattle.gw_figures.specs.Labels.{labels}
-use Rattle.gw_summary.specs.Telling.{Line, IsRunOfLine, source}
+use Rattle.gw_summary.specs.Adding.{Line}
+use Rattle.gw_summary.specs.Telling.{IsRunOfLine, source}
 use Rattle.gw_summary.proofs.Results.{run_of_row}
 use Rattle.gw_summary.proofs.telling.run_of.Goals as goal
 

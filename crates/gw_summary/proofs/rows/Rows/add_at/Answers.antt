@@ -6,8 +6,8 @@ use Rattle.gw_summary.proofs.Keeping.{add_behind, point_set}
 use Rattle.gw_summary.proofs.Taking.{takes_more, takes_again}
 use Rattle.gw_summary.proofs.rows.Rows.add_at.Goals as goal
 
-pub returns-in-New : goal.returns-in-New
-returns-in-New c =
+pub returns-in-New-clause-takes : goal.returns-in-New-clause-takes
+returns-in-New-clause-takes c =
     let old = c.args.self.now in
     let line = c.args.line.now in
     let x = c.index_mut.result.now in
@@ -16,8 +16,8 @@ returns-in-New c =
     let all = point_set old.points.items c.args.place x c.add.new.self New line within c.index_mut.ensures.value adds in
     takes_more line old _ (add_behind (waiting_lines old.waiting.items) New line _ _ all) refl
 
-pub returns-in-Again : goal.returns-in-Again
-returns-in-Again c =
+pub returns-in-Again-clause-takes : goal.returns-in-Again-clause-takes
+returns-in-Again-clause-takes c =
     let old = c.args.self.now in
     let line = c.args.line.now in
     let x = c.index_mut.result.now in
