@@ -1,3 +1,5 @@
 pub mod Alone
 pub mod Conversions
 pub mod Reports
+pub mod RowLines
+pub mod Summaries

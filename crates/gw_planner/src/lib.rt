@@ -4,6 +4,7 @@
 
 mod answering;
 mod converting;
+pub mod laws;
 mod reporting;
 mod rows;
 mod studies;

@@ -29,12 +29,12 @@ use Rattle.gw_shards.specs.Shares.{IsShareOr}
 use Rattle.gw_command_line.specs.Words.{Demand, RunsDemand, LoneDemand}
 use Rattle.gw_command_line.specs.declared.rows.Shard.{Shard}
 use Rattle.gw_command_line.specs.declared.rows.Summing.{Summing}
-use Rattle.gw_summary.specs.Telling.{IsSummary}
+use Rattle.gw_summary.specs.Telling.{IsSummary, IsSummaryOf}
 use Rattle.gw_summary.specs.declared.rows.Rows.{Rows as RowsOfStudy}
 use Rattle.gw_summary.specs.declared.telling.SummaryRequest.{SummaryRequest}
 use Rattle.gw_planner.specs.Answers.{IsReported, question_answering, chart_answering, window_of, is_plain, request_of, words_of, studied_with}
 use Rattle.gw_planner.specs.Answers.{comparison_answering, study_answering, rows_asked, share_asked, object_asked}
-use Rattle.planner.specs.Answers.{answering_of_input, charting_of_input, studying_of_input, of_front, summary_answering}
+use Rattle.planner.specs.Answers.{answering_of_input, charting_of_input, studying_of_input, of_front, summary_answering, summary_of}
 use Rattle.gw_command_line.specs.declared.words.Question.{Question}
 use Rattle.gw_command_line.specs.declared.words.Question.TheVariants.{Explain, List as Lists, Points, Convert, Trace, Report}
 use Rattle.gw_command_line.specs.declared.words.Span.{Span}
@@ -155,5 +155,8 @@ summary_end rows request text status (inl h) = inl h.0
 summary_end rows request text status (inr h) = inr h
 
 pub summed_ends : (summing : Summing) → Ends (summary_answering summing)
-summed_ends summing bytes text status (inl h) = summary_end h.0 _ text status h.2
-summed_ends summing bytes text status (inr h) = inr h
+summed_ends summing bytes text status h = by_answer h.0
+  where
+    by_answer : IsSummaryOf bytes (summary_of summing) text status → IsEnd status
+    by_answer (inl h) = summary_end h.0 _ text status h.2
+    by_answer (inr h) = inr h

@@ -12,6 +12,7 @@ use Rattle.gw_command_line.specs.declared.rows.Runs.{Runs}
 use Rattle.gw_command_line.specs.declared.words.Chart.{Chart}
 use Rattle.gw_command_line.specs.declared.words.Study.{Study}
 use Rattle.gw_command_line.specs.declared.rows.Summing.{Summing}
+use Rattle.gw_summary.specs.StudyTold.{TellsStudies}
 use Rattle.gw_summary.specs.Telling.{IsSummaryOf}
 use Rattle.gw_summary.specs.declared.telling.SummaryRequest.{SummaryRequest}
 use Rattle.gw_command_line.specs.declared.words.Question.{Question}
@@ -51,9 +52,10 @@ making_object run = of_front (object_asked (lone_view run))
 abbrev pub summary_of : Summing → SummaryRequest
 summary_of summing = record { seeds = summing.seeds; all = summing.all }
 
--- what the rows that stand on a reader tell, or a refusal
+-- what the rows that stand on a reader tell, or a refusal; of all rows of a study, in any order, the table of the study
 abbrev pub summary_answering : Summing → Answering
-summary_answering summing bytes text status = IsSummaryOf bytes (summary_of summing) text status
+summary_answering summing bytes text status =
+    IsSummaryOf bytes (summary_of summing) text status × TellsStudies bytes (summary_of summing) text status
 
 -- the line on wrong words
 abbrev pub usage_line : List ℕ

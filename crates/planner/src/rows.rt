@@ -7,7 +7,8 @@ ghost use Rattle.gw_command_line.specs.Asking.{AreRunsFit, IsRunFit, IsShardFit}
 ghost use Rattle.gw_console.specs.Output.{AnswersReader, Delivers};
 ghost use Rattle.gw_console.specs.Calls.{LosesFront, LosesAtMost, TellsReads, TellsCalls};
 ghost use Rattle.gw_summary.specs.Keeping.{IsRead};
-ghost use Rattle.planner.specs.Reading.{ReadsAll, ReadsPiece, TellsRows};
+ghost use Rattle.gw_summary.specs.StudyRows.{StudyRuns, IsReadOf};
+ghost use Rattle.planner.specs.Reading.{ReadsAll, ReadsPiece, RefusesNoRows, RefusesNoStudy, TellsRows};
 ghost use Rattle.gw_planner.specs.Answers.{share_asked};
 ghost use Rattle.planner.specs.Answers.{making_object, of_front, summary_answering, telling_rows};
 
@@ -153,6 +154,7 @@ fn read_piece<R: Read>(
     requires room { 0 < length buffer.old }
     ensures told { TellsRows result reader.new.failed }
     ensures read { IfOk result (λ count. ReadsPiece count reader.old.left reader.new.left pieces.old pieces.new) }
+    ensures study { RefusesNoStudy result reader.old.left pieces.old }
 {
     match reader.read(buffer) {
         Ok(count) => match pieces.add(alloc, &buffer[..count]) {
@@ -171,8 +173,10 @@ fn read_pieces<R: Read>(
 ) -> Result<(), NoRows>
     requires reader { reader.old.failed ≡ false }
     requires none { IsRead [] pieces.old }
+    requires nothing { (s : StudyRuns) → IsReadOf s [] pieces.old }
     ensures told { TellsRows result reader.new.failed }
     ensures read { OnOk result (ReadsAll reader.old.left pieces.new) }
+    ensures study { RefusesNoRows result reader.old.left }
 {
     let mut buffer = [0; PIECE];
     for _ in 0..u64::MAX {

@@ -1,4 +1,4 @@
-use Rattle.std.proofs.Common.{◌∙◌, List, map, ap}
+use Rattle.std.proofs.Common.{◌∙◌, map, ap}
 use Rattle.gw_command_line.specs.Words.{study_view}
 use Rattle.gw_planner.proofs.Alone.{of_points}
 use Rattle.gw_planner.proofs.studies.answer_with.Goals as goal

@@ -1,4 +1,3 @@
-use Rattle.gw_console.proofs.Bytes.{front_lost}
 use Rattle.planner.proofs.Fronts.{front_answered}
 use Rattle.gw_planner.specs.Answers.{question_answering}
 use Rattle.planner.proofs.program.read_and_answer.Goals as goal

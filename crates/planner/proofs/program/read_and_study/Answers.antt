@@ -1,4 +1,3 @@
-use Rattle.gw_console.proofs.Bytes.{front_lost}
 use Rattle.gw_command_line.specs.Words.{study_view}
 use Rattle.planner.proofs.Fronts.{front_answered}
 use Rattle.gw_planner.specs.Answers.{study_answering}

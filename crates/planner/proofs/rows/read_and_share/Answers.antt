@@ -1,4 +1,3 @@
-use Rattle.gw_console.proofs.Bytes.{front_lost}
 use Rattle.planner.proofs.Fronts.{front_answered}
 use Rattle.gw_planner.specs.Answers.{share_asked}
 use Rattle.planner.proofs.rows.read_and_share.Goals as goal
