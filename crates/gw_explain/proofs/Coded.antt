@@ -1,5 +1,5 @@
 -- The table has a row for each code, and no other.
-use Rattle.std.proofs.Common.{◌≡◌, ◌∙◌, ℕ, List, [], ◌∷◌, Bool, true, false, ◌==◌, ◌||◌, Option, Some, None, is_some, option_map, sym, refl, ap, if◌then◌else◌}
+use Rattle.std.proofs.Common.{◌≡◌, ◌∙◌, ℕ, List, [], ◌∷◌, Bool, true, false, ◌==◌, ◌||◌, Option, Some, None, is_some, option_map, refl, ap, if◌then◌else◌}
 use Rattle.std.specs.List.{list_any}
 use Rattle.gw_explain.specs.declared.advice.TheConstants.{ADVICE}
 use Rattle.gw_explain.specs.Codes.{words_in, advice_words, is_code}

@@ -4,6 +4,7 @@ use Rattle.std.specs.Str.Lines.{lines as lines_of_text}
 use Rattle.gw_object.specs.declared.fault.Fault.{Fault}
 use Rattle.gw_object.specs.declared.parts.Parts.{Parts}
 use Rattle.gw_rules.specs.Accepted.{Accepted}
+use Rattle.gw_text.specs.declared.model.Model.{Model}
 use Rattle.gw_text.specs.declared.model.Statement.{Statement}
 use Rattle.gw_assemble.specs.Assembly.{Assembles, IsRefusal}
 use Rattle.gw_answers.specs.Status.{end_status, refusal_status}
@@ -26,6 +27,10 @@ pub record IsAdvised (front : List ℕ) (code : ℕ) (text : List ℕ) : Type 0 
   pub whole : text ≡ front ++ advice_lines known code
 
 -- TEXTS
+
+-- the places of a model's parts in its text
+abbrev pub sites_in : Model → Sites
+sites_in model = sites_of model.statements.items
 
 -- a text is this, then the lines that a refusal is about, marks below, and the words on its code
 pub record TellsFault (lines : List (List ℕ)) (sites : Sites) (fault : Fault) (front text : List ℕ) : Type 0 where

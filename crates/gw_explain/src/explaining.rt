@@ -1,10 +1,11 @@
 //! The explanation of a model text, or of an object.
 
-ghost use Rattle.std.specs.Prelude.{◌≡◌, map, IfOk, OnOk};
+ghost use Rattle.std.specs.Prelude.{◌≡◌, IfOk, OnOk};
 ghost use Rattle.gw_answers.specs.Status.{end_status as ended_status, refusal_status};
 ghost use Rattle.gw_answers.specs.Answer.{accepted_line};
-ghost use Rattle.gw_source_lines.specs.Sites.{no_sites, sites_of, sites_told};
-ghost use Rattle.gw_explain.specs.Explanation.{Begins, ExplainsRefusal, TellsFault, IsExplainedModel, IsExplainedText, IsExplained};
+ghost use Rattle.gw_source_lines.specs.Sites.{no_sites, sites_told};
+ghost use Rattle.gw_explain.specs.Explanation.{Begins, ExplainsRefusal, TellsFault, IsExplainedModel, IsExplainedText, IsExplained, sites_in};
+ghost use Rattle.gw_explain.specs.Shown.{bytes_of};
 
 use crate::facts::known_in_model;
 use crate::forms::{put_marks, put_words_on_site, site_of};
@@ -32,7 +33,7 @@ fn put_told(
     sources: &Sources,
     fault: Fault,
 ) -> Result<(), Memory>
-    ensures { OnOk result (TellsFault (map (λ l. l.now) lines.now) (sites_told sources.now) fault
+    ensures { OnOk result (TellsFault (bytes_of lines.now) (sites_told sources.now) fault
         out.old.items out.new.items) }
 {
     let site = site_of(alloc, lines, fault)?;
@@ -45,7 +46,6 @@ fn put_told(
 
 /// The explanation of a refusal: its line, the lines that it is about, and the words on it, with what is known; want of memory
 /// is no explanation.
-#[tactic(auto, using(crate::proofs::Beginning::told_with))]
 fn refusal_of(
     alloc: Global,
     text: &[u8],
@@ -85,7 +85,7 @@ fn known_of(
 /// The explanation of a refusal of a model text that was read.
 fn refusal_in(alloc: Global, text: &[u8], model: &Model, fault: Fault) -> Result<Answer, Memory>
     ensures text { IfOk result (λ a.
-        ExplainsRefusal text.now (sites_of model.now.statements.items) fault a.text.items) }
+        ExplainsRefusal text.now (sites_in model.now) fault a.text.items) }
     ensures status { IfOk result (λ a. a.status ≡ refusal_status) }
 {
     let sources = sources(alloc, model)?;
