@@ -6,6 +6,7 @@ ghost use Rattle.gw_object.specs.Reading.{first_fault};
 ghost use Rattle.gw_answers.specs.Requests.{AnswersAs};
 ghost use Rattle.gw_study.specs.Seeds.{seeds_of_run};
 ghost use Rattle.gw_shards.specs.Objects as model;
+ghost use Rattle.gw_shards.specs.Objects.{IsObjectAnswer};
 
 use gw_alternatives::{Alternative, NoAlternative, points_by_words};
 use gw_answers::status::{ENDED, REFUSED};
@@ -117,7 +118,7 @@ pub fn object_of_run(
 ) -> Result<Answer, Memory>
     requires { run < 512 }
     ensures { IfOk result (λ a.
-        model.IsObjectAnswer text.now (map (λ w. w.now) words.now) run count a.text.items a.status) }
+        IsObjectAnswer text.now (map (λ w. w.now) words.now) run count a.text.items a.status) }
 {
     match points_by_words(alloc, text, words, count) {
         Ok(points) => object_of(alloc, &points, run),
