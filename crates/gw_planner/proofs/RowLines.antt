@@ -2,13 +2,13 @@
 use Rattle.std.proofs.Common.{◌≡◌, ◌∙◌, ◌⊎◌, ◌+◌, ◌++◌, ℕ, zero, suc, List, [], ◌∷◌, Some, refl, arith, ap, subst, inl, inr}
 use Rattle.std.specs.Prelude.{slice_get}
 use Rattle.std.specs.List.{All, Contains, flat_map}
-use Rattle.std.proofs.lemmas.List.Elements.{All-cons, Contains-append_cases, Contains-append_right, Contains-push_cases}
+use Rattle.std.proofs.lemmas.List.Elements.{All-cons, Contains-append_cases, Contains-append_right}
 use Rattle.gw_figures.specs.Labels.{Label}
 use Rattle.gw_figures.specs.declared.run.Run.{Run}
-use Rattle.gw_rows.specs.Reading.{IsLine, IsReadable}
+use Rattle.gw_rows.specs.Reading.{IsLine, IsReadable, IsWithoutFeed}
 use Rattle.gw_rows.specs.Rows.{Source, row, rows_from}
 use Rattle.gw_rows.proofs.RowLines.{line_of_row}
-use Rattle.gw_summary.specs.Keeping.{IsWithoutFeed}
+use Rattle.gw_summary.proofs.Taking.{none_there, only}
 
 -- a line is the row of the run at a place, from a number on
 abbrev pub IsRowAtPlace : List Label → Source → ℕ → ℕ → Run → List ℕ → Type 0
@@ -28,17 +28,6 @@ pub record RowLines (labels : List Label) (s : Source) (number : ℕ) (runs : Li
 abbrev pub AreReadable : List Label → Source → ℕ → List Run → Type 0
 AreReadable labels s number runs =
     (place : ℕ) (run : Run) → slice_get runs place ≡ Some run → IsReadable labels s (number + place) run
-
-pub none_there : {A : Type 0} (line : List ℕ) → Contains [] line → A
-none_there line h = absurd (omega (arith, h.1))
-
--- the one of one
-pub the_one : (line t : List ℕ) → Contains (line ∷ []) t → line ≡ t
-the_one line t h = by_cases (Contains-push_cases [] line t h)
-  where
-    by_cases : Contains [] t ⊎ (line ≡ t) → line ≡ t
-    by_cases (inl none) = none_there t none
-    by_cases (inr is) = is
 
 pub itself : (line : List ℕ) (rest : List (List ℕ)) → Contains (line ∷ rest) line
 itself line rest = (0, omega arith, refl)
@@ -90,7 +79,7 @@ row_lines labels s number (run ∷ runs) readable =
         → (place : ℕ) × (it : Run) × (slice_get (run ∷ runs) place ≡ Some it) × IsRowAtPlace labels s number place it line
     by_line first is others line (inl one) =
         let here : number ≡ number + 0 = omega arith in
-        (0, run, refl, subst (λ l. IsRowAtPlace labels s number 0 run l) (the_one first line one) (subst (λ n. IsLine first (row labels s n run)) here is))
+        (0, run, refl, subst (λ l. IsRowAtPlace labels s number 0 run l) (only first line one) (subst (λ n. IsLine first (row labels s n run)) here is))
     by_line first is others line (inr there) =
         let h = others.from line there in
         let behind : (number + 1) + h.0 ≡ number + suc h.0 = omega arith in

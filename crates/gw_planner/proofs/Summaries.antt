@@ -16,7 +16,7 @@ use Rattle.gw_points.specs.Points.{count_of}
 use Rattle.gw_points.specs.declared.fault.NoPoint.{NoPoint}
 use Rattle.gw_points.specs.declared.points.Points.{Points}
 use Rattle.gw_points.specs.declared.points.Points.TheVariants.{One}
-use Rattle.gw_rows.specs.Reading.{HasFigures, IsLine, IsPlain, MayBeInRange, MayChange, Outcome, outcome_of}
+use Rattle.gw_rows.specs.Reading.{HasFigures, IsLine, IsPlain, IsWithoutFeed, MayBeInRange, MayChange, Outcome, outcome_of}
 use Rattle.gw_rows.specs.Rows.{rows_from}
 use Rattle.gw_rows.proofs.Changing.{changes_are_told}
 use Rattle.gw_rows.proofs.ModelFigures.{models_are_readable}
@@ -30,14 +30,15 @@ use Rattle.gw_alternatives.specs.Alternatives.{ArePointsFrom}
 use Rattle.gw_alternatives.specs.declared.alternative.Alternative.{Alternative}
 use Rattle.gw_shards.specs.Rows.{AddsRowsOfPoints, AreRequestRows, AreRows, AreRowsOf, Common, common_of, header_of, header_unless, source}
 use Rattle.gw_shards.specs.declared.request.RowsRequest.{RowsRequest}
-use Rattle.gw_summary.specs.Keeping.{AreLines, IsWithoutFeed}
+use Rattle.gw_summary.specs.Keeping.{AreLines}
 use Rattle.gw_summary.specs.StudyRows.{AreAllRows, IsLineIn, IsReadableStudy, StudyRuns}
 use Rattle.gw_summary.specs.StudyTold.{IsAsked, IsStudyText}
 use Rattle.gw_summary.specs.Complete.{IsFirstOf}
 use Rattle.gw_summary.specs.declared.telling.SummaryRequest.{SummaryRequest}
 use Rattle.gw_summary.proofs.Splitting.{all_lines}
+use Rattle.gw_summary.proofs.Taking.{only}
 use Rattle.gw_planner.specs.Laws.{AreOfFirstStudy, HaveLinesOf, HaveShortLines, SummariesAreStudies, study_of}
-use Rattle.gw_planner.proofs.RowLines.{AreReadable, RowLines, itself, row_lines, the_one}
+use Rattle.gw_planner.proofs.RowLines.{AreReadable, RowLines, itself, row_lines}
 
 -- RUNS OF WHICH THE SAME IS KEPT
 
@@ -219,7 +220,7 @@ line_in text request rows a h line there = by_place (Contains-append_cases (h.he
   where
     by_place : Contains (h.header.line ∷ []) line ⊎ Contains h.others.lines line
         → IsLineIn (study_runs (common_of text request) a.point a.made.runs) line
-    by_place (inl one) = inl (subst (λ l. IsLine l (header_of a.point)) (the_one h.header.line line one) h.header.is)
+    by_place (inl one) = inl (subst (λ l. IsLine l (header_of a.point)) (only h.header.line line one) h.header.is)
     by_place (inr behind) =
         let found = h.others.from line behind in
         inr (0 + found.0, record { place = found.0; run = found.1; at = found.2; number_is = refl; row_is = found.3 })

@@ -8,17 +8,13 @@ use Rattle.csv.specs.Writing.{default_writer, needs_byte}
 use Rattle.gw_figures.specs.Labels.{Label}
 use Rattle.gw_figures.specs.declared.run.Run.{Run}
 use Rattle.gw_rows.specs.Names.{header, names}
-use Rattle.gw_rows.specs.Reading.{IsLine, IsPlain, IsReadable}
+use Rattle.gw_rows.specs.Reading.{IsLine, IsPlain, IsReadable, IsWithoutFeed}
 use Rattle.gw_rows.specs.Rows.{Source, fields, row, rows_field}
 use Rattle.gw_rows.proofs.HeaderTexts.{all_plain}
 use Rattle.gw_rows.proofs.Parting.{ArePlain, behind_commas, plain_row}
 use Rattle.gw_rows.proofs.PlainFields.{plain_fields}
 
--- no byte is a line feed
-abbrev pub HasNoFeed : List ℕ → Type 0
-HasNoFeed bytes = All (λ b. b ≢ 10) bytes
-
-none_in : HasNoFeed []
+none_in : IsWithoutFeed []
 none_in = λ k d h. absurd (omega (arith, h))
 
 no_feed : (b : ℕ) → needs_byte default_writer b ≡ false → b ≢ 10
@@ -28,13 +24,13 @@ no_feed b plain = λ is. absurd (feed_needs (sym (ap (needs_byte default_writer)
     feed_needs h = absurd cc
 
 -- a field that needs no quotes has no line feed
-plain_is_one_line : (field : List ℕ) → IsPlain field → HasNoFeed field
+plain_is_one_line : (field : List ℕ) → IsPlain field → IsWithoutFeed field
 plain_is_one_line [] plain = none_in
 plain_is_one_line (b ∷ rest) plain =
     let parts = or_parts (needs_byte default_writer b) (list_any (needs_byte default_writer) rest) plain in
     All-cons (λ c. c ≢ 10) b rest (no_feed b parts.0) (plain_is_one_line rest parts.1)
 
-fields_are_one_line : (fields : List (List ℕ)) → ArePlain fields → HasNoFeed (behind_commas fields)
+fields_are_one_line : (fields : List (List ℕ)) → ArePlain fields → IsWithoutFeed (behind_commas fields)
 fields_are_one_line [] plain = none_in
 fields_are_one_line (field ∷ rest) (here, more) =
     All-cons (λ c. c ≢ 10) 44 (field ++ behind_commas rest) (λ is. absurd (omega (arith, is)))
@@ -44,7 +40,7 @@ fields_are_one_line (field ∷ rest) (here, more) =
 pub record LineOf (text : List ℕ) : Type 0 where
   pub line : List ℕ
   pub is : IsLine line text
-  pub one : HasNoFeed line
+  pub one : IsWithoutFeed line
 
 record_line : (x y : List ℕ) (rest : List (List ℕ)) (text : List ℕ) → ArePlain (x ∷ y ∷ rest) → text ≡ (x ++ behind_commas (y ∷ rest)) ++ 10 ∷ []
     → LineOf text

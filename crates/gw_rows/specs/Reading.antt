@@ -1,5 +1,5 @@
 -- What is said of rows that are read.
-use Rattle.std.specs.Prelude.{◌≡◌, ◌<◌, ◌≤◌, ℕ, ◌^◌, List, [], ◌∷◌, ◌++◌, length, map, slice_index_or, ℤ}
+use Rattle.std.specs.Prelude.{◌≡◌, ◌≢◌, ◌<◌, ◌≤◌, ℕ, ◌^◌, List, [], ◌∷◌, ◌++◌, length, map, slice_index_or, ℤ}
 use Rattle.std.specs.Prelude.{Option, Some, None, Vec, IfSome, true, false, FitsSigned}
 use Rattle.std.specs.Global.{Global}
 use Rattle.std.specs.Int.{w128}
@@ -20,6 +20,10 @@ use Rattle.gw_rows.specs.declared.row.Row.{Row}
 -- a text is a line and its line feed
 abbrev pub IsLine : List ℕ → List ℕ → Type 0
 IsLine line text = text ≡ line ++ 10 ∷ []
+
+-- no byte is a line feed
+abbrev pub IsWithoutFeed : List ℕ → Type 0
+IsWithoutFeed bytes = All (λ b. b ≢ 10) bytes
 
 -- a field needs no quotes
 abbrev pub IsPlain : List ℕ → Type 0

@@ -7,7 +7,8 @@ use Rattle.std.proofs.lemmas.List.{append_assoc, append-nil, take_more}
 use Rattle.std.proofs.lemmas.List.Concat.{flat_map-append}
 use Rattle.std.proofs.lemmas.List.Edits.{between_more, between_none}
 use Rattle.std.proofs.lemmas.List.Elements.{All-append, All-push, Contains-append_left, Contains-append_right, Contains-append_cases}
-use Rattle.gw_summary.specs.Keeping.{IsRead, IsTaken, IsWithoutFeed, Takes, kept_lines}
+use Rattle.gw_rows.specs.Reading.{IsWithoutFeed}
+use Rattle.gw_summary.specs.Keeping.{IsRead, IsTaken, Takes, kept_lines}
 use Rattle.gw_summary.specs.declared.pieces.Pieces.{Pieces}
 use Rattle.gw_summary.specs.declared.rows.Rows.{Rows}
 

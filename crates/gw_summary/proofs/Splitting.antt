@@ -4,7 +4,8 @@ use Rattle.std.specs.Prelude.{◌≢◌}
 use Rattle.std.specs.List.{All, flat_map}
 use Rattle.std.proofs.lemmas.List.{append_assoc, append-nil}
 use Rattle.std.proofs.lemmas.List.Elements.{All-head, All-tail}
-use Rattle.gw_summary.specs.Keeping.{AreLines, IsWithoutFeed}
+use Rattle.gw_rows.specs.Reading.{IsWithoutFeed}
+use Rattle.gw_summary.specs.Keeping.{AreLines}
 
 -- lines, each with its line feed
 abbrev pub bytes_of : List (List ℕ) → List ℕ

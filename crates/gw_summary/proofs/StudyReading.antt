@@ -5,7 +5,8 @@ use Rattle.std.specs.Prelude.{◌≢◌}
 use Rattle.std.specs.List.{All, Contains, between}
 use Rattle.std.proofs.lemmas.List.{append_assoc, append-nil, length-append, take-append-drop}
 use Rattle.std.proofs.lemmas.List.Elements.{All-append, All-drop, All-head, Contains-append_cases}
-use Rattle.gw_summary.specs.Keeping.{AreLines, IsWithoutFeed, Takes, kept_lines}
+use Rattle.gw_rows.specs.Reading.{IsWithoutFeed}
+use Rattle.gw_summary.specs.Keeping.{AreLines, Takes, kept_lines}
 use Rattle.gw_summary.specs.StudyRows.{StudyRuns, AreLinesIn, HoldsMore, IsFrontIn, IsHeaderIn, IsHeld, IsLineIn, IsNoFault, IsReadableStudy, IsReadOf, ReadsOn}
 use Rattle.gw_summary.specs.declared.fault.NoRow.{NoRow}
 use Rattle.gw_summary.specs.declared.pieces.Pieces.{Pieces}

@@ -1,5 +1,5 @@
 -- What is told of bytes that were read.
-use Rattle.std.proofs.Common.{◌≡◌, ◌⊎◌, ℕ, List, [], Option, None, Some, Result, Ok, Err, IfOk, true, subst, arith, inl, inr}
+use Rattle.std.proofs.Common.{◌≡◌, ◌⊎◌, ℕ, List, [], Option, None, Some, Result, Ok, Err, IfOk, true, subst, inl, inr}
 use Rattle.std.specs.Prelude.{is_some}
 use Rattle.std.specs.List.{Contains}
 use Rattle.std.proofs.lemmas.List.Elements.{Contains-append_left, Contains-append_cases}
@@ -10,9 +10,7 @@ use Rattle.gw_summary.specs.Telling.{HasOnlyRows, IsSummary, IsSummaryOf}
 use Rattle.gw_summary.specs.declared.pieces.Pieces.{Pieces}
 use Rattle.gw_summary.specs.declared.rows.Waiting.{Waiting}
 use Rattle.gw_summary.specs.declared.telling.SummaryRequest.{SummaryRequest}
-
-none_there : {A : Type 0} (line : List ℕ) → Contains [] line → A
-none_there line h = absurd (omega (arith, h.1))
+use Rattle.gw_summary.proofs.Taking.{none_there}
 
 -- no refusal is told where there is none
 none_told : {A : Type 0} (refused : Option Refused) → refused ≡ None → is_some refused ≡ true → A

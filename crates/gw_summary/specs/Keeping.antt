@@ -1,9 +1,9 @@
 -- Which of the lines that were read are kept, and what becomes of the others.
-use Rattle.std.specs.Prelude.{◌≡◌, ◌≢◌, ◌⊎◌, ℕ, List, [], ◌∷◌, ◌++◌, map, Option, None, Some, Vec, true, is_some}
+use Rattle.std.specs.Prelude.{◌≡◌, ◌⊎◌, ℕ, List, [], ◌∷◌, ◌++◌, map, Option, None, Some, Vec, true, is_some}
 use Rattle.std.specs.Global.{Global}
 use Rattle.std.specs.List.{All, Contains, flat_map}
 use Rattle.gw_figures.specs.declared.figure.Figure.{Figure}
-use Rattle.gw_rows.specs.Reading.{IsHeaderOf, IsLine}
+use Rattle.gw_rows.specs.Reading.{IsHeaderOf, IsLine, IsWithoutFeed}
 use Rattle.gw_rows.specs.Refusals.{refusal_header, refusal_row}
 use Rattle.gw_summary.specs.declared.pieces.Pieces.{Pieces}
 use Rattle.gw_summary.specs.declared.point.Adding.{Adding}
@@ -71,10 +71,6 @@ abbrev pub HaveSame : Rows → Rows → Type 0
 HaveSame old new = (kept_lines new ≡ kept_lines old) × (new.refused ≡ old.refused)
 
 -- OF BYTES THAT WERE READ
-
--- no byte is a line feed
-abbrev pub IsWithoutFeed : List ℕ → Type 0
-IsWithoutFeed bytes = All (λ b. b ≢ 10) bytes
 
 -- bytes are lines, each with its line feed, and then the beginning of one more
 pub record AreLines (bytes : List ℕ) (lines : List (List ℕ)) (rest : List ℕ) : Type 0 where

@@ -1,7 +1,8 @@
 //! Lines out of the pieces in which an input is read.
 
 ghost use Rattle.std.specs.Prelude.{◌≡◌, ◌≢◌, ◌∷◌, [], IsFalse, IsTrue, OnOk};
-ghost use Rattle.gw_summary.specs.Keeping.{IsRead, IsWithoutFeed, ReadsBytes};
+ghost use Rattle.gw_rows.specs.Reading.{IsWithoutFeed};
+ghost use Rattle.gw_summary.specs.Keeping.{IsRead, ReadsBytes};
 ghost use Rattle.gw_summary.specs.StudyRows.{StudyRuns, IsReadOf, ReadsOn};
 
 use crate::fault::{NoRow, RowFault};
