@@ -7,7 +7,7 @@ use Rattle.gw_answers.specs.Refusal.{refusal_line}
 use Rattle.gw_answers.specs.Status.{refusal_status, no_memory}
 use Rattle.gw_batch.specs.Codes.{words_fault}
 use Rattle.gw_batch.specs.declared.entry.Entry.{Entry as StoredEntry}
-use Rattle.gw_batch.specs.Batch.{Entry, entry_of, entries, unread, most_objects}
+use Rattle.gw_batch.specs.Batch.{Entry, entry_of, entries, unread_bytes, most_objects}
 use Rattle.gw_batch.specs.Parts.{IsBatchTold, IsPool}
 use Rattle.gw_console.specs.declared.fault.ProgramFault.TheVariants.{Memory}
 use Rattle.gw_console.specs.Output.{memory_line, Fails, AnswersReader, Responds}
@@ -48,10 +48,11 @@ batch_responds workers slice result old new held written es in_range given (text
 batch_responds workers slice result old new held written es in_range given (text, status, inr is, writes) = (text, status, inr (inl is), writes)
 
 -- known bytes lose those of the batch
-lost : (old new : Option (List ℕ)) (read : List ℕ) → Consumes old new read → unread most_objects (read ++ left_of new) ≡ left_of new → LosesEntries old new
+lost : (old new : Option (List ℕ)) (read : List ℕ) → Consumes old new read → unread_bytes most_objects (read ++ left_of new) ≡ left_of new
+    → LosesEntries old new
 lost None new read taken rest = tt
 lost (Some bytes) None read taken rest = absurd taken
-lost (Some bytes) (Some left) read taken rest = ap (λ (bs : List ℕ). Some bs) (sym (ap (unread most_objects) taken ∙ rest))
+lost (Some bytes) (Some left) read taken rest = ap (λ (bs : List ℕ). Some bs) (sym (ap (unread_bytes most_objects) taken ∙ rest))
 
 pub batch_lost : (workers slice : ℕ) (old new : Option (List ℕ)) (es : List StoredEntry) → words_fault workers slice ≡ None
     → GivesBatch es old new → LosesBatch workers slice old new

@@ -16,7 +16,7 @@ use Rattle.gw_answers.specs.Service.{nowhere, service_full}
 use Rattle.gw_batch.specs.declared.entry.Entry.{Entry as StoredEntry}
 use Rattle.gw_batch.specs.declared.entry.Entry.TheVariants as stored
 use Rattle.gw_batch.specs.Batch.{Entry, Object, Broken, Front, front, entry_of, sized_front, behind_length, first_entry, surplus, next_entry}
-use Rattle.gw_batch.specs.Batch.{with_next, past, entries, unread, most_objects}
+use Rattle.gw_batch.specs.Batch.{with_next, past, entries, unread_bytes, most_objects}
 use Rattle.gw_console.specs.Calls.{LosesAtMost}
 use Rattle.gpssw.specs.Framing.{left_of, IsFirst, surplus_entry, GivesEntry, GivesBatch}
 
@@ -117,7 +117,7 @@ pub record GoesOn (left : ℕ) (es : List StoredEntry) (old mid : Option (List �
   pub read : List ℕ
   pub taken : Consumes old mid read
   pub entries : (more : List ℕ) → entries most_objects (read ++ more) ≡ map entry_of es ++ entries left more
-  pub rest : (more : List ℕ) → unread most_objects (read ++ more) ≡ unread left more
+  pub rest : (more : List ℕ) → unread_bytes most_objects (read ++ more) ≡ unread_bytes left more
 
 pub begin : (old : Option (List ℕ)) → GoesOn most_objects [] old old
 begin old = record { read = []; taken = Consumes-nil old; entries = λ more. refl; rest = λ more. refl }
@@ -128,9 +128,10 @@ of_object : (left : ℕ) (bytes object behind : List ℕ) → first_entry bytes 
 unfolding entries
 of_object left bytes object behind first = rw (first, entries) refl
 
-past_object : (left : ℕ) (bytes object behind : List ℕ) → first_entry bytes ≡ Some (front (Object object) behind) → unread (suc left) bytes ≡ unread left behind
-unfolding unread
-past_object left bytes object behind first = rw (first, unread) refl
+past_object : (left : ℕ) (bytes object behind : List ℕ) → first_entry bytes ≡ Some (front (Object object) behind)
+    → unread_bytes (suc left) bytes ≡ unread_bytes left behind
+unfolding unread_bytes
+past_object left bytes object behind first = rw (first, unread_bytes) refl
 
 -- one entry more, at the end of several
 snoc : (es : List StoredEntry) (e : StoredEntry) (rest : List Entry) → map entry_of es ++ (entry_of e ∷ rest) ≡ map entry_of (es ++ e ∷ []) ++ rest
@@ -146,7 +147,7 @@ next_object left es old mid new object so_far given = record {
       ∙ ap (λ rest. map entry_of es ++ rest) (of_object left (given.0 ++ more) object.items more (given.2 more))
       ∙ snoc es (stored.Object object) (entries left more);
   rest = λ more.
-      ap (unread most_objects) (append_assoc so_far.read given.0 more) ∙ so_far.rest (given.0 ++ more)
+      ap (unread_bytes most_objects) (append_assoc so_far.read given.0 more) ∙ so_far.rest (given.0 ++ more)
       ∙ past_object left (given.0 ++ more) object.items more (given.2 more);
 }
 
@@ -156,10 +157,10 @@ unfolding entries
 of_none zero bytes first = rw (first, entries) refl
 of_none (suc left) bytes first = rw (first, entries) refl
 
-past_none : (left : ℕ) (bytes : List ℕ) → next_entry left bytes ≡ None → unread left bytes ≡ []
-unfolding unread
-past_none zero bytes first = rw (first, unread) refl
-past_none (suc left) bytes first = rw (first, unread) refl
+past_none : (left : ℕ) (bytes : List ℕ) → next_entry left bytes ≡ None → unread_bytes left bytes ≡ []
+unfolding unread_bytes
+past_none zero bytes first = rw (first, unread_bytes) refl
+past_none (suc left) bytes first = rw (first, unread_bytes) refl
 
 of_broken : (left : ℕ) (bytes behind : List ℕ) (fault : Fault) → next_entry left bytes ≡ Some (front (Broken fault) behind)
     → entries left bytes ≡ Broken fault ∷ []
@@ -167,10 +168,10 @@ unfolding entries
 of_broken zero bytes behind fault first = rw (first, entries) refl
 of_broken (suc left) bytes behind fault first = rw (first, entries) refl
 
-past_broken : (left : ℕ) (bytes behind : List ℕ) (fault : Fault) → next_entry left bytes ≡ Some (front (Broken fault) behind) → unread left bytes ≡ behind
-unfolding unread
-past_broken zero bytes behind fault first = rw (first, unread) refl
-past_broken (suc left) bytes behind fault first = rw (first, unread) refl
+past_broken : (left : ℕ) (bytes behind : List ℕ) (fault : Fault) → next_entry left bytes ≡ Some (front (Broken fault) behind) → unread_bytes left bytes ≡ behind
+unfolding unread_bytes
+past_broken zero bytes behind fault first = rw (first, unread_bytes) refl
+past_broken (suc left) bytes behind fault first = rw (first, unread_bytes) refl
 
 -- where there is no entry there are no bytes
 no_bytes : (b : Bool) (o : Front) → (if b then None else Some o) ≡ None → b ≡ true
@@ -203,7 +204,7 @@ ended_by_none left es old mid new so_far given = record {
       ap (entries most_objects) (append_assoc so_far.read given.0 (left_of new)) ∙ so_far.entries (given.0 ++ left_of new)
       ∙ ap (λ rest. map entry_of es ++ rest) (of_none left (given.0 ++ left_of new) given.2) ∙ append-nil (map entry_of es);
   rest =
-      ap (unread most_objects) (append_assoc so_far.read given.0 (left_of new)) ∙ so_far.rest (given.0 ++ left_of new)
+      ap (unread_bytes most_objects) (append_assoc so_far.read given.0 (left_of new)) ∙ so_far.rest (given.0 ++ left_of new)
       ∙ past_none left (given.0 ++ left_of new) given.2 ∙ sym (nothing_left left given.0 (left_of new) given.2);
 }
 
@@ -218,7 +219,7 @@ ended_by_fault left es old mid new fault so_far given = record {
       ∙ ap (λ rest. map entry_of es ++ rest) (of_broken left (given.0 ++ left_of new) (left_of new) fault given.2)
       ∙ sym (map-append entry_of es (stored.Broken fault ∷ []));
   rest =
-      ap (unread most_objects) (append_assoc so_far.read given.0 (left_of new)) ∙ so_far.rest (given.0 ++ left_of new)
+      ap (unread_bytes most_objects) (append_assoc so_far.read given.0 (left_of new)) ∙ so_far.rest (given.0 ++ left_of new)
       ∙ past_broken left (given.0 ++ left_of new) (left_of new) fault given.2;
 }
 

@@ -6,7 +6,7 @@ use Rattle.gw_batch.specs.Codes.{words_fault}
 use Rattle.gw_answers.specs.Service.{nowhere, service_full}
 use Rattle.gw_batch.specs.declared.entry.Entry.{Entry as StoredEntry}
 use Rattle.gw_batch.specs.declared.entry.Entry.TheVariants as stored
-use Rattle.gw_batch.specs.Batch.{Entry, Object, Broken, Front, front, entry_of, first_entry, sized_front, surplus, entries, unread, most_objects}
+use Rattle.gw_batch.specs.Batch.{Entry, Object, Broken, Front, front, entry_of, first_entry, sized_front, surplus, entries, unread_bytes, most_objects}
 
 -- the bytes that a reader has left; none where it doesn't tell them
 abbrev pub left_of : Option (List ℕ) → List ℕ
@@ -40,7 +40,7 @@ pub record GivesBatch (es : List StoredEntry) (old new : Option (List ℕ)) : Ty
   pub read : List ℕ
   pub taken : Consumes old new read
   pub entries : entries most_objects (read ++ left_of new) ≡ map entry_of es
-  pub rest : unread most_objects (read ++ left_of new) ≡ left_of new
+  pub rest : unread_bytes most_objects (read ++ left_of new) ≡ left_of new
 
 -- at most so many bytes are read of a batch
 abbrev pub most_bytes_of_batch : ℕ
@@ -48,7 +48,7 @@ most_bytes_of_batch = most_objects * (MOST_BYTES + 4) + 1
 
 -- known bytes lose those of a batch
 abbrev pub LosesEntries : Option (List ℕ) → Option (List ℕ) → Type 0
-LosesEntries old new = IfSome old (λ bytes. new ≡ Some (unread most_objects bytes))
+LosesEntries old new = IfSome old (λ bytes. new ≡ Some (unread_bytes most_objects bytes))
 
 -- and none where the words are out of range
 abbrev pub LosesBatch : ℕ → ℕ → Option (List ℕ) → Option (List ℕ) → Type 0

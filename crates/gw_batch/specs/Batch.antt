@@ -81,6 +81,6 @@ past next None = []
 past next (Some f) = if is_object f.entry then next f.behind else f.behind
 
 -- the bytes that are not read, where so many objects may come yet
-unfoldable pub unread : ℕ → List ℕ → List ℕ
-unread zero bytes = past (λ more. more) (next_entry zero bytes)
-unread (suc left) bytes = past (unread left) (next_entry (suc left) bytes)
+unfoldable pub unread_bytes : ℕ → List ℕ → List ℕ
+unread_bytes zero bytes = past (λ more. more) (next_entry zero bytes)
+unread_bytes (suc left) bytes = past (unread_bytes left) (next_entry (suc left) bytes)

@@ -1,7 +1,7 @@
 -- The delay lists of all entities: what a call on one of them makes of all that are shown.
 use Rattle.std.proofs.Common.{◌≡◌, ◌∙◌, ℕ, ◌+◌, ◌<◌, ◌≤◌, List, [], map, length, get_or, set, sum_by, ap, sym, subst, arith}
 use Rattle.gw_num.specs.Table.{at}
-use Rattle.gw_members.specs.Lists.{LosesRoom, changed, room_of}
+use Rattle.gw_members.specs.Lists.{LosesRoom, apply_at, room_of}
 use Rattle.gw_chains.specs.Waiting.{Walked}
 use Rattle.gw_members.specs.declared.tx.Member.{Member}
 use Rattle.gw_members.proofs.Each.{Stands, stands, here as read, after, total, at_most_total, all_kept, many_kept, one_changed, loses}
@@ -20,7 +20,7 @@ module _ (lists : List Walked) (shown : List (List Member)) (e : ℕ) (l v : Wal
       ≡ sum_by length (map (λ (l : Walked). l.members) (set lists e v))
   waiting_kept = many_kept (λ (l : Walked). l.members) lists shown e l v is within here
 
-  pub list_changed : (g : List Member → List Member) → v.members ≡ g l.members → map (λ (l : Walked). l.members) (set lists e v) ≡ changed e g shown
+  pub list_changed : (g : List Member → List Member) → v.members ≡ g l.members → map (λ (l : Walked). l.members) (set lists e v) ≡ apply_at e g shown
   list_changed = one_changed (λ (l : Walked). l.members) lists shown e l v is within here
 
   pub list_fits : length l.members ≤ sum_by length (map (λ (l : Walked). l.members) lists)

@@ -4,7 +4,7 @@ ghost use Rattle.std.specs.Prelude.{◌≡◌, ◌≤◌, ◌<◌, ◌+◌, ◌�
 ghost use Rattle.std.specs.VecDeque.{deque_capacity};
 ghost use Rattle.gw_num.specs.Table.{at};
 ghost use Rattle.gw_members.specs.Chain.{all_behind};
-ghost use Rattle.gw_members.specs.Lists.{changed, LosesRoom, without_at};
+ghost use Rattle.gw_members.specs.Lists.{apply_at, LosesRoom, without_at};
 ghost use Rattle.gw_members.specs.Members.{member_of, behind_peers, tx_at};
 ghost use Rattle.gw_chains.specs.Waiting.{LacksRoom};
 
@@ -132,7 +132,7 @@ impl Waits {
     pub fn push_wait(&mut self, entity: u16, tx: Tx, priority: i32)
         requires there { entity < length self.old.lists }
         requires room { 0 < at 0 self.old.rooms entity }
-        ensures lists { self.new.lists ≡ changed entity (behind_peers tx priority) self.old.lists }
+        ensures lists { self.new.lists ≡ apply_at entity (behind_peers tx priority) self.old.lists }
         ensures count { length self.new.lists ≡ length self.old.lists }
         ensures retry { self.new.retry ≡ self.old.retry }
         ensures room { LosesRoom 1 self.old.rooms self.new.rooms }

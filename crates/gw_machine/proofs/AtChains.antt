@@ -8,7 +8,7 @@ use Rattle.gw_blocks.specs.declared.parts.LinkOrder.TheVariants.{Fifo, Lifo}
 use Rattle.gw_blocks.specs.declared.parts.Link.{Link}
 use Rattle.gw_members.specs.Chain.{Chain, behind, first, rest}
 use Rattle.gw_user_chains.specs.Linked as chain_lists
-use Rattle.gw_members.specs.Lists.{changed}
+use Rattle.gw_members.specs.Lists.{apply_at}
 use Rattle.gw_members.specs.declared.tx.Tx.{Tx}
 use Rattle.gw_members.specs.declared.tx.Member.{Member}
 use Rattle.gw_members.specs.declared.tx.Event.{Event}
@@ -105,7 +105,7 @@ all-joined P Lifo tx xs p h = (p, h)
 module _ (m : Configuration) (tx : Tx) (link : Link) (order : LinkOrder) (is : link.order ≡ order) (l : Linked m) (r : CanRest m tx)
     (there : link.chain < length m.entities.facilities.values)
     (q : Population) (ts : q.txs ≡ put_chain tx.number (Some link.chain) m.transactions.txs) (kept : KeepsRest m.transactions q)
-    (us : chain_lists.Linked) (changes : us.lists ≡ changed link.chain (joined_at order tx) m.chains.lists) where
+    (us : chain_lists.Linked) (changes : us.lists ≡ apply_at link.chain (joined_at order tx) m.chains.lists) where
   state-joins : state_of (with_others m None q m.current_events us) ≡ joins_chain tx.number link (state_of m)
   state-joins =
       ap (λ (xs : List (Option LiveTransaction)). record (state_of m)
@@ -159,7 +159,7 @@ none-first (x ∷ xs) is = absurd cc
 
 module _ (m : Configuration) (l : Linked m) (c target : ℕ) (there : c < length m.entities.facilities.values) where
   -- nobody is there to leave
-  module _ (us : chain_lists.Linked) (changes : us.lists ≡ changed c rest m.chains.lists) (none : first (at [] m.chains.lists c) ≡ None) where
+  module _ (us : chain_lists.Linked) (changes : us.lists ≡ apply_at c rest m.chains.lists) (none : first (at [] m.chains.lists c) ≡ None) where
     pub lists-empty : us.lists ≡ m.chains.lists
     lists-empty =
         let empty = none-first (at [] m.chains.lists c) none in
@@ -189,7 +189,7 @@ module _ (m : Configuration) (l : Linked m) (c target : ℕ) (there : c < length
           (ts : q.txs ≡ put_chain tx.number None p.txs) (ps : q.places ≡ p.places) (pl : p.last ≡ m.transactions.last)
           (ls : q.last ≡ p.last) (sound : IsSound q)
           (cs : Chain Member) (joined : cs.items ≡ behind (λ (x : Member). x.priority) (record { tx = tx; priority = t.priority }) m.current_events.items)
-          (us : chain_lists.Linked) (changes : us.lists ≡ changed c rest m.chains.lists) where
+          (us : chain_lists.Linked) (changes : us.lists ≡ apply_at c rest m.chains.lists) where
         abbrev leaver : Member
         leaver = record { tx = tx; priority = t.priority }
 

@@ -5,7 +5,7 @@ use Rattle.std.specs.Prelude.{int_le, slice_get, remove}
 use Rattle.std.specs.List.{AllByRecursion}
 use Rattle.std.proofs.lemmas.Bool.{cases_eq, eq-eqb, ne_eqb}
 use Rattle.gw_members.specs.Chain.{behind}
-use Rattle.gw_members.specs.Lists.{changed}
+use Rattle.gw_members.specs.Lists.{apply_at}
 use Rattle.gw_chains.specs.Waiting.{Waiting}
 use Rattle.gw_members.specs.declared.tx.Tx.{Tx}
 use Rattle.gw_members.specs.declared.tx.Member.{Member}
@@ -27,12 +27,12 @@ use Rattle.gw_machine.proofs.Due.{agree}
 
 module _ {T : Type 0} where
   -- a change of one list
-  pub lists-put : (number : T → ℕ) (old new : List (List T)) (e : ℕ) (f : List T → List T) → new ≡ changed e f old → map (map number) new
+  pub lists-put : (number : T → ℕ) (old new : List (List T)) (e : ℕ) (f : List T → List T) → new ≡ apply_at e f old → map (map number) new
       ≡ put [] (map (map number) old) e (map number (f (at [] old e)))
   lists-put number old new e f changes = ap (map (map number)) changes ∙ map-put (map number) [] old e (f (at [] old e))
 
   -- what holds of the members of one list and of those of each other
-  pub all_changed : (P : T → Type 0) (old new : List (List T)) (e : ℕ) (f : List T → List T) → new ≡ changed e f old
+  pub all_changed : (P : T → Type 0) (old new : List (List T)) (e : ℕ) (f : List T → List T) → new ≡ apply_at e f old
       → AllByRecursion P (f (at [] old e)) → (k : ℕ) → AllByRecursion P (at [] old k) → AllByRecursion P (at [] new k)
   all_changed P old new e f changes here k other =
       elim (cases_eq k e) [
@@ -41,7 +41,7 @@ module _ {T : Type 0} where
       ]
 
   -- there are as many lists
-  pub as_many : (old new : List (List T)) (e : ℕ) (f : List T → List T) → e < length old → new ≡ changed e f old → length new ≡ length old
+  pub as_many : (old new : List (List T)) (e : ℕ) (f : List T → List T) → e < length old → new ≡ apply_at e f old → length new ≡ length old
   as_many old new e f there changes = ap length changes ∙ length-put [] old e (f (at [] old e)) there
 
 -- DELAY LISTS
@@ -70,7 +70,7 @@ length-remove [] i tx at = absurd cc
 length-remove (x ∷ xs) zero tx at = omega arith
 length-remove (x ∷ xs) (suc i) tx at = omega (arith, length-remove xs i tx at)
 
-pub changed-here : (e : ℕ) (f : List Member → List Member) (old new : List (List Member)) → new ≡ changed e f old → at [] new e ≡ f (at [] old e)
+pub changed-here : (e : ℕ) (f : List Member → List Member) (old new : List (List Member)) → new ≡ apply_at e f old → at [] new e ≡ f (at [] old e)
 changed-here e f old new changes = ap (λ xs. at [] xs e) changes ∙ at-put [] old e (f (at [] old e))
 
 -- who leaves from a place leaves the list
@@ -100,7 +100,7 @@ module _ (m : Configuration) (l : Linked m) (e : ℕ) (below : e < length m.enti
 
   -- the active transaction waits
   module _ (held : Holds m.transactions tx) (active : m.active ≡ Some tx) (ws : List (List Member)) (rs : List Member)
-      (kept : rs ≡ m.waits.retry) (changes : ws ≡ changed e (behind (λ (x : Member). x.priority) newcomer) m.waits.lists) where
+      (kept : rs ≡ m.waits.retry) (changes : ws ≡ apply_at e (behind (λ (x : Member). x.priority) newcomer) m.waits.lists) where
     pub state-waits : record (state_of m)
         { lists = record (lists_of m) { active = None; delay_lists = map (map member_number) ws; retry = map member_number rs } }
         ≡ waits_for e tx.number (state_of m)
@@ -135,7 +135,7 @@ module _ (m : Configuration) (l : Linked m) (e : ℕ) (below : e < length m.enti
 
   -- who is at a place of a delay list leaves it for the current events chain
   module _ (i : ℕ) (there : option_map (λ (x : Member). x.tx) (slice_get (at [] m.waits.lists e) i) ≡ Some tx) (ws : List (List Member))
-      (rs : List Member) (kept : rs ≡ m.waits.retry) (changes : ws ≡ changed e (λ xs. remove xs i) m.waits.lists) where
+      (rs : List Member) (kept : rs ≡ m.waits.retry) (changes : ws ≡ apply_at e (λ xs. remove xs i) m.waits.lists) where
     number-there : option_map member_number (slice_get (at [] m.waits.lists e) i) ≡ Some tx.number
     number-there = numbered (slice_get (at [] m.waits.lists e) i) there
       where

@@ -7,7 +7,7 @@ use Rattle.std.proofs.lemmas.List.{length-map}
 use Rattle.gw_num.specs.Table.{at, put}
 use Rattle.gw_num.proofs.Tables.{at-put, sum_by-put}
 use Rattle.gw_members.specs.Chain.{first, rest}
-use Rattle.gw_members.specs.Lists.{LosesRoom, changed}
+use Rattle.gw_members.specs.Lists.{LosesRoom, apply_at}
 
 -- x is what stands at e
 pub record Stands {X : Type 0} (xs : List X) (e : ℕ) (x : X) : Type 0 where
@@ -45,7 +45,7 @@ module _ {X Y : Type 0} (f : X → Y) (d : Y) where
 
 module _ {X T : Type 0} (f : X → List T) where
   -- what a call makes of the list of one entity
-  pub changes : (xs : List X) (e : ℕ) (x v : X) (g : List T → List T) → Stands xs e x → f v ≡ g (f x) → map f (set xs e v) ≡ changed e g (map f xs)
+  pub changes : (xs : List X) (e : ℕ) (x v : X) (g : List T → List T) → Stands xs e x → f v ≡ g (f x) → map f (set xs e v) ≡ apply_at e g (map f xs)
   changes xs e x v g s is = written f [] xs e v s.below ∙ ap (put [] (map f xs) e) (is ∙ ap g (sym (here f [] xs e x s)))
 
   -- how many members all lists have
@@ -71,8 +71,8 @@ module _ {X T : Type 0} (f : X → List T) (xs : List X) (shown : List (List T))
   many_kept same n many = many ∙ ap (sum_by length) (is ∙ sym (all_kept same))
 
   -- it changes the members of that one
-  pub one_changed : (g : List T → List T) → f v ≡ g (f x) → map f (set xs e v) ≡ changed e g shown
-  one_changed g same = changes f xs e x v g (stands f [] xs shown e x is within here) same ∙ ap (changed e g) is
+  pub one_changed : (g : List T → List T) → f v ≡ g (f x) → map f (set xs e v) ≡ apply_at e g shown
+  one_changed g same = changes f xs e x v g (stands f [] xs shown e x is within here) same ∙ ap (apply_at e g) is
 
 -- room of which each list has at most n less
 module _ {X : Type 0} (f g : X → ℕ) (n : ℕ) (others : (y : X) → f y ≤ g y + n) where

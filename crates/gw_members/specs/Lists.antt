@@ -4,12 +4,12 @@ use Rattle.gw_num.specs.Table.{at, put}
 
 module _ {T : Type 0} where
   -- the lists, where f was done to the list of this entity
-  abbrev pub changed : ℕ → (List T → List T) → List (List T) → List (List T)
-  changed entity f lists = put [] lists entity (f (at [] lists entity))
+  abbrev pub apply_at : ℕ → (List T → List T) → List (List T) → List (List T)
+  apply_at entity f lists = put [] lists entity (f (at [] lists entity))
 
   -- the lists, where the one at a place of the list of this entity was taken out
   abbrev pub without_at : ℕ → ℕ → List (List T) → List (List T)
-  without_at entity place lists = changed entity (λ xs. remove xs place) lists
+  without_at entity place lists = apply_at entity (λ xs. remove xs place) lists
 
 -- each list has room for at most n fewer than before
 abbrev pub LosesRoom : ℕ → List ℕ → List ℕ → Type 0

@@ -17,7 +17,7 @@ use Rattle.gw_names.specs.Codes.{limit_fault}
 use Rattle.gw_names.specs.Ledger.{noted_at}
 use Rattle.gw_names.specs.Known.{Key, key, is_same, is_same_kind, entity_of}
 use Rattle.gw_names.specs.Places.{AddsEntities}
-use Rattle.gw_names.specs.Sights.{with_sight, unplaced, number_among}
+use Rattle.gw_names.specs.Sights.{with_sight, limit_for, number_among}
 use Rattle.gw_names.specs.Sighting.{IsSighted, key_of, keys_of}
 use Rattle.gw_names.proofs.Declaring.{or_none}
 
@@ -130,7 +130,7 @@ module _ {A : Type 0} (pick : Mention → Option A) (same : A → A → Bool) (r
   pub seen_before : list_any (same x) seen ≡ true → with_sight pick same room seen x ≡ seen
   seen_before is = ap (λ b. if b then seen else if nat_lt (length seen) room then seen ++ x ∷ [] else seen) is
 
-  pub not_noted : list_any (same x) seen ≡ true → unplaced pick same room seen line x ≡ []
+  pub not_noted : list_any (same x) seen ≡ true → limit_for pick same room seen line x ≡ []
   not_noted is = ap (λ b. if b then [] else if nat_lt (length seen) room then [] else noted_at line limit_fault ∷ []) is
 
   -- of what is new, where there is room
@@ -139,7 +139,7 @@ module _ {A : Type 0} (pick : Mention → Option A) (same : A → A → Bool) (r
       ap (λ b. if b then seen else if nat_lt (length seen) room then seen ++ x ∷ [] else seen) is
       ∙ ap (λ b. if b then seen ++ x ∷ [] else seen) fits
 
-  pub placed_now : list_any (same x) seen ≡ false → nat_lt (length seen) room ≡ true → unplaced pick same room seen line x ≡ []
+  pub placed_now : list_any (same x) seen ≡ false → nat_lt (length seen) room ≡ true → limit_for pick same room seen line x ≡ []
   placed_now is fits =
       ap (λ b. if b then [] else if nat_lt (length seen) room then [] else noted_at line limit_fault ∷ []) is
       ∙ ap (λ b. if b then [] else noted_at line limit_fault ∷ []) fits
@@ -150,7 +150,7 @@ module _ {A : Type 0} (pick : Mention → Option A) (same : A → A → Bool) (r
       ap (λ b. if b then seen else if nat_lt (length seen) room then seen ++ x ∷ [] else seen) is
       ∙ ap (λ b. if b then seen ++ x ∷ [] else seen) full
 
-  pub noted_now : list_any (same x) seen ≡ false → nat_lt (length seen) room ≡ false → unplaced pick same room seen line x ≡ noted_at line limit_fault ∷ []
+  pub noted_now : list_any (same x) seen ≡ false → nat_lt (length seen) room ≡ false → limit_for pick same room seen line x ≡ noted_at line limit_fault ∷ []
   noted_now is full =
       ap (λ b. if b then [] else if nat_lt (length seen) room then [] else noted_at line limit_fault ∷ []) is
       ∙ ap (λ b. if b then [] else noted_at line limit_fault ∷ []) full

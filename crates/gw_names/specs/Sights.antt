@@ -30,13 +30,13 @@ module _ {A : Type 0} (pick : Mention → Option A) (same : A → A → Bool) (r
   seen_after seen (m ∷ ms) = seen_after (with_pick seen (pick m.what)) ms
 
   -- the refusal of one more, where it is new and there is no room
-  abbrev pub unplaced : List A → ℕ → A → List Noted
-  unplaced seen line x = if list_any (same x) seen then [] else if nat_lt (length seen) room then [] else noted_at line limit_fault ∷ []
+  abbrev pub limit_for : List A → ℕ → A → List Noted
+  limit_for seen line x = if list_any (same x) seen then [] else if nat_lt (length seen) room then [] else noted_at line limit_fault ∷ []
 
   -- and of what a mention speaks of
   abbrev pub unplaced_pick : List A → ℕ → Option A → List Noted
   unplaced_pick seen line None = []
-  unplaced_pick seen line (Some x) = unplaced seen line x
+  unplaced_pick seen line (Some x) = limit_for seen line x
 
   -- the refusals of these mentions
   abbrev pub limits_after : List A → List Mentioned → List Noted
@@ -73,7 +73,7 @@ entities_after seen ms = seen_after entity_in is_same most_entities seen ms
 
 -- the refusal of one more, where it is new and there is no room
 abbrev pub unplaced_entity : List Key → ℕ → Key → List Noted
-unplaced_entity seen line entity = unplaced entity_in is_same most_entities seen line entity
+unplaced_entity seen line entity = limit_for entity_in is_same most_entities seen line entity
 
 -- and of what a mention speaks of
 abbrev pub unplaced_entity_in : List Key → ℕ → Mention → List Noted
@@ -146,7 +146,7 @@ module _ (free : List ℕ) where
 
   -- the refusal of one more, where it is new and no number is left
   abbrev pub unplaced_parameter : List (List ℕ) → ℕ → List ℕ → List Noted
-  unplaced_parameter seen line name = unplaced parameter_in bytes_eq (length free) seen line name
+  unplaced_parameter seen line name = limit_for parameter_in bytes_eq (length free) seen line name
 
   -- and of what a mention speaks of
   abbrev pub unplaced_parameter_in : List (List ℕ) → ℕ → Mention → List Noted

@@ -9,7 +9,7 @@ use Rattle.std.proofs.lemmas.List.Elements.{All-head, All-tail, All-cons}
 use Rattle.std.proofs.lemmas.List.Sorted.{IsPermutation-refl, IsPermutation-sym, IsPermutation-trans, IsPermutation-cons, IsPermutation-insert}
 use Rattle.std.proofs.lemmas.List.Sorted.{IsPermutation-append_left, IsPermutation-to_front}
 use Rattle.gw_members.specs.Chain.{in_time, first, rest}
-use Rattle.gw_plain_chains.specs.Runs.{merged, begins_recent}
+use Rattle.gw_plain_chains.specs.Runs.{merge_by_time, begins_recent}
 
 module _ {A : Type 0} (time : A → ℤ) where
   -- who is scheduled for an earlier time, or for the same, stays ahead of a newcomer
@@ -43,19 +43,19 @@ module _ {A : Type 0} (time : A → ℤ) where
           before false f = rw f (goes_ahead x y (z ∷ zs) lt)
 
   -- a newcomer to the settled ones, scheduled before all that came later
-  merged_before : (x : A) (settled recent : List A) → All (λ r. time x <ℤ time r) recent → merged time (in_time time x settled) recent
-      ≡ in_time time x (merged time settled recent)
+  merged_before : (x : A) (settled recent : List A) → All (λ r. time x <ℤ time r) recent → merge_by_time time (in_time time x settled) recent
+      ≡ in_time time x (merge_by_time time settled recent)
   merged_before x settled [] all = refl
   merged_before x settled (r ∷ rs) all =
-      ap (λ ws. merged time ws rs) (in_either_order x r settled (All-head (λ r. time x <ℤ time r) r rs all))
+      ap (λ ws. merge_by_time time ws rs) (in_either_order x r settled (All-head (λ r. time x <ℤ time r) r rs all))
       ∙ merged_before x (in_time time r settled) rs (All-tail (λ r. time x <ℤ time r) r rs all)
 
   -- the first of the settled ones comes first, where no recent one is scheduled before it
-  pub merged_settled : (x : A) (settled recent : List A) → All (λ r. time x ≤ℤ time r) recent → merged time (x ∷ settled) recent ≡ x
-      ∷ merged time settled recent
+  pub merged_settled : (x : A) (settled recent : List A) → All (λ r. time x ≤ℤ time r) recent → merge_by_time time (x ∷ settled) recent ≡ x
+      ∷ merge_by_time time settled recent
   merged_settled x settled [] all = refl
   merged_settled x settled (r ∷ rs) all =
-      ap (λ ws. merged time ws rs) (stays_ahead r x settled (All-head (λ r. time x ≤ℤ time r) r rs all))
+      ap (λ ws. merge_by_time time ws rs) (stays_ahead r x settled (All-head (λ r. time x ≤ℤ time r) r rs all))
       ∙ merged_settled x (in_time time r settled) rs (All-tail (λ r. time x ≤ℤ time r) r rs all)
 
   -- those of a chain in order that come after its first are scheduled for no earlier time
@@ -66,33 +66,33 @@ module _ {A : Type 0} (time : A → ℤ) where
   rest_ordered r rs ordered = λ i j d lt within. ordered (suc i) (suc j) d (omega arith) (omega arith)
 
   -- the first of the recent ones comes first, where none is settled, or the first of those is scheduled after it
-  pub merged_alone : (r : A) (rs : List A) → AllPairs (λ y z. time y ≤ℤ time z) (r ∷ rs) → merged time [] (r ∷ rs) ≡ r ∷ merged time [] rs
+  pub merged_alone : (r : A) (rs : List A) → AllPairs (λ y z. time y ≤ℤ time z) (r ∷ rs) → merge_by_time time [] (r ∷ rs) ≡ r ∷ merge_by_time time [] rs
   merged_alone r rs ordered = merged_settled r [] rs (after_first r rs ordered)
 
   pub merged_recent : (x : A) (settled : List A) (r : A) (rs : List A) → time r <ℤ time x → AllPairs (λ y z. time y ≤ℤ time z) (r ∷ rs)
-      → merged time (x ∷ settled) (r ∷ rs) ≡ r ∷ merged time (x ∷ settled) rs
+      → merge_by_time time (x ∷ settled) (r ∷ rs) ≡ r ∷ merge_by_time time (x ∷ settled) rs
   merged_recent x settled r rs lt ordered =
-      ap (λ ws. merged time ws rs) (goes_ahead r x settled lt) ∙ merged_settled r (x ∷ settled) rs (after_first r rs ordered)
+      ap (λ ws. merge_by_time time ws rs) (goes_ahead r x settled lt) ∙ merged_settled r (x ∷ settled) rs (after_first r rs ordered)
 
   -- a newcomer among the recent ones has its place in the whole chain
   pub merged_newcomer : (x : A) (settled recent : List A) → AllPairs (λ y z. time y ≤ℤ time z) recent
-      → merged time settled (in_time time x recent) ≡ in_time time x (merged time settled recent)
+      → merge_by_time time settled (in_time time x recent) ≡ in_time time x (merge_by_time time settled recent)
   merged_newcomer x settled [] ordered = refl
   merged_newcomer x settled (y ∷ ys) ordered = case (int_le (time y) (time x)) refl (merged_newcomer x (in_time time y settled) ys (rest_ordered y ys ordered))
     where
-      case : (b : Bool) → int_le (time y) (time x) ≡ b → merged time (in_time time y settled) (in_time time x ys)
-          ≡ in_time time x (merged time (in_time time y settled) ys) → merged time settled (in_time time x (y ∷ ys))
-          ≡ in_time time x (merged time settled (y ∷ ys))
-      case true e same = ap (merged time settled) (stays_ahead x y ys (grind (arith, ints))) ∙ same
+      case : (b : Bool) → int_le (time y) (time x) ≡ b → merge_by_time time (in_time time y settled) (in_time time x ys)
+          ≡ in_time time x (merge_by_time time (in_time time y settled) ys) → merge_by_time time settled (in_time time x (y ∷ ys))
+          ≡ in_time time x (merge_by_time time settled (y ∷ ys))
+      case true e same = ap (merge_by_time time settled) (stays_ahead x y ys (grind (arith, ints))) ∙ same
       case false e same =
           let lt : time x <ℤ time y = grind (arith, ints) in
           let all : All (λ r. time y ≤ℤ time r) ys = after_first y ys ordered in
-          ap (merged time settled) (goes_ahead x y ys lt)
+          ap (merge_by_time time settled) (goes_ahead x y ys lt)
           ∙ merged_before x settled (y ∷ ys) (All-cons (λ r. time x <ℤ time r) y ys lt (λ k d within. let le = all k d within in grind (arith, ints)))
 
   -- settled ones that are scheduled for no later time than the first recent one stay ahead of it
   merged_passed : (early settled : List A) (r : A) (rs : List A) → All (λ e. time e ≤ℤ time r) early
-      → AllPairs (λ y z. time y ≤ℤ time z) (r ∷ rs) → merged time (early ++ settled) (r ∷ rs) ≡ early ++ merged time settled (r ∷ rs)
+      → AllPairs (λ y z. time y ≤ℤ time z) (r ∷ rs) → merge_by_time time (early ++ settled) (r ∷ rs) ≡ early ++ merge_by_time time settled (r ∷ rs)
   merged_passed [] settled r rs all ordered = refl
   merged_passed (e ∷ es) settled r rs all ordered =
       let le : time e ≤ℤ time r = All-head (λ e. time e ≤ℤ time r) e es all in
@@ -103,40 +103,40 @@ module _ {A : Type 0} (time : A → ℤ) where
   -- TAKING THE FIRST
 
   pub first_recent : (settled : List A) (r : A) (rs : List A) → begins_recent time settled (r ∷ rs) ≡ true
-      → AllPairs (λ y z. time y ≤ℤ time z) (r ∷ rs) → merged time settled (r ∷ rs) ≡ r ∷ merged time settled rs
+      → AllPairs (λ y z. time y ≤ℤ time z) (r ∷ rs) → merge_by_time time settled (r ∷ rs) ≡ r ∷ merge_by_time time settled rs
   first_recent [] r rs begins ordered = merged_alone r rs ordered
   first_recent (x ∷ settled) r rs begins ordered = merged_recent x settled r rs (grind (arith, ints)) ordered
 
   pub first_settled : (x : A) (settled recent : List A) → begins_recent time (x ∷ settled) recent ≡ false
-      → AllPairs (λ y z. time y ≤ℤ time z) recent → merged time (x ∷ settled) recent ≡ x ∷ merged time settled recent
+      → AllPairs (λ y z. time y ≤ℤ time z) recent → merge_by_time time (x ∷ settled) recent ≡ x ∷ merge_by_time time settled recent
   first_settled x settled [] begins ordered = refl
   first_settled x settled (r ∷ rs) begins ordered =
       let le : time x ≤ℤ time r = grind (arith, ints) in
       let later = after_first r rs ordered in
       merged_settled x settled (r ∷ rs) (All-cons (λ q. time x ≤ℤ time q) r rs le (λ k d within. let more = later k d within in grind (arith, ints)))
 
-  pub none_left : (recent : List A) → begins_recent time [] recent ≡ false → merged time [] recent ≡ []
+  pub none_left : (recent : List A) → begins_recent time [] recent ≡ false → merge_by_time time [] recent ≡ []
   none_left [] begins = refl
   none_left (r ∷ rs) begins = absurd (true≢false begins)
 
   -- what comes first, and what is left behind it
   pub first_when_recent : (settled recent : List A) → begins_recent time settled recent ≡ true → AllPairs (λ y z. time y ≤ℤ time z) recent
-      → first (merged time settled recent) ≡ first recent
+      → first (merge_by_time time settled recent) ≡ first recent
   first_when_recent settled [] begins ordered = absurd (true≢false (sym begins))
   first_when_recent settled (r ∷ rs) begins ordered = ap first (first_recent settled r rs begins ordered)
 
   pub rest_when_recent : (settled recent : List A) → begins_recent time settled recent ≡ true → AllPairs (λ y z. time y ≤ℤ time z) recent
-      → rest (merged time settled recent) ≡ merged time settled (rest recent)
+      → rest (merge_by_time time settled recent) ≡ merge_by_time time settled (rest recent)
   rest_when_recent settled [] begins ordered = absurd (true≢false (sym begins))
   rest_when_recent settled (r ∷ rs) begins ordered = ap rest (first_recent settled r rs begins ordered)
 
   pub first_when_settled : (settled recent : List A) → begins_recent time settled recent ≡ false
-      → AllPairs (λ y z. time y ≤ℤ time z) recent → first (merged time settled recent) ≡ first settled
+      → AllPairs (λ y z. time y ≤ℤ time z) recent → first (merge_by_time time settled recent) ≡ first settled
   first_when_settled [] recent begins ordered = ap first (none_left recent begins)
   first_when_settled (x ∷ settled) recent begins ordered = ap first (first_settled x settled recent begins ordered)
 
   pub rest_when_settled : (settled recent : List A) → begins_recent time settled recent ≡ false → AllPairs (λ y z. time y ≤ℤ time z) recent
-      → rest (merged time settled recent) ≡ merged time (rest settled) recent
+      → rest (merge_by_time time settled recent) ≡ merge_by_time time (rest settled) recent
   rest_when_settled [] recent begins ordered = ap rest (none_left recent begins) ∙ sym (none_left recent begins)
   rest_when_settled (x ∷ settled) recent begins ordered = ap rest (first_settled x settled recent begins ordered)
 
@@ -155,7 +155,7 @@ module _ {A : Type 0} (time : A → ℤ) where
       case true same = omega (arith)
       case false same = omega (arith)
 
-  pub merged_length : (settled recent : List A) → length (merged time settled recent) ≡ length settled + length recent
+  pub merged_length : (settled recent : List A) → length (merge_by_time time settled recent) ≡ length settled + length recent
   merged_length settled [] = omega (arith)
   merged_length settled (r ∷ rs) = let same = merged_length (in_time time r settled) rs in let one = in_time_length r settled in omega (arith)
 
@@ -170,7 +170,7 @@ module _ {A : Type 0} (time : A → ℤ) where
       case false same = IsPermutation-refl _
 
   -- both runs together have the members of the chain
-  pub merged_members : (settled recent : List A) → IsPermutation (merged time settled recent) (settled ++ recent)
+  pub merged_members : (settled recent : List A) → IsPermutation (merge_by_time time settled recent) (settled ++ recent)
   merged_members settled [] = subst (λ all. IsPermutation settled all) (sym (append-nil settled)) (IsPermutation-refl settled)
   merged_members settled (r ∷ rs) =
       IsPermutation-trans _ _ _ (merged_members (in_time time r settled) rs)
@@ -182,19 +182,20 @@ module _ {A : Type 0} (time : A → ℤ) where
   -- in one round of settling, those settled that are scheduled for no later time than the first recent one go to the end, and it goes behind them
   pub settled_round : (early unseen done : List A) (r : A) (rs : List A) → All (λ e. time e ≤ℤ time r) early
       → ((d : A) → 0 < length unseen → time r <ℤ time (get_or unseen 0 d)) → AllPairs (λ y z. time y ≤ℤ time z) (r ∷ rs) →
-      done ++ merged time (early ++ unseen) (r ∷ rs) ≡ ((done ++ early) ++ r ∷ []) ++ merged time unseen rs
+      done ++ merge_by_time time (early ++ unseen) (r ∷ rs) ≡ ((done ++ early) ++ r ∷ []) ++ merge_by_time time unseen rs
   settled_round early unseen done r rs all late ordered =
       ap (λ ws. done ++ ws) (merged_passed early unseen r rs all ordered ∙ ap (λ ws. early ++ ws) (next unseen late))
-      ∙ sym (append_assoc done early (r ∷ merged time unseen rs))
-      ∙ sym (append_assoc (done ++ early) (r ∷ []) (merged time unseen rs))
+      ∙ sym (append_assoc done early (r ∷ merge_by_time time unseen rs))
+      ∙ sym (append_assoc (done ++ early) (r ∷ []) (merge_by_time time unseen rs))
     where
-      next : (unseen : List A) → ((d : A) → 0 < length unseen → time r <ℤ time (get_or unseen 0 d)) → merged time unseen (r ∷ rs) ≡ r ∷ merged time unseen rs
+      next : (unseen : List A) → ((d : A) → 0 < length unseen → time r <ℤ time (get_or unseen 0 d))
+          → merge_by_time time unseen (r ∷ rs) ≡ r ∷ merge_by_time time unseen rs
       next [] late = merged_alone r rs ordered
       next (x ∷ xs) late = merged_recent x xs r rs (late x (omega arith)) ordered
 
   -- the chain while it is being settled: behind those done come the first so many, unseen yet, and the recent ones, each at its place
   abbrev pub settling : ℕ → List A → List A → List A
-  settling unseen settled recent = drop unseen settled ++ merged time (take unseen settled) recent
+  settling unseen settled recent = drop unseen settled ++ merge_by_time time (take unseen settled) recent
 
   -- one round, where so many of the unseen pass
   pub settling_round : (xs : List A) (unseen passed : ℕ) (r : A) (rs : List A) → passed ≤ unseen → unseen ≤ length xs

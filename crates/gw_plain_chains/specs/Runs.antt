@@ -7,9 +7,9 @@ use Rattle.gw_members.specs.declared.tx.Event.{Event}
 
 module _ {A : Type 0} where
   -- a chain that is kept in two runs: the recent ones, one after the other, each at its place by time among those before
-  abbrev pub merged : (A → ℤ) → List A → List A → List A
-  merged time settled [] = settled
-  merged time settled (x ∷ recent) = merged time (in_time time x settled) recent
+  abbrev pub merge_by_time : (A → ℤ) → List A → List A → List A
+  merge_by_time time settled [] = settled
+  merge_by_time time settled (x ∷ recent) = merge_by_time time (in_time time x settled) recent
 
   -- whether the first of a chain in two runs is a recent one: one that is scheduled before the first settled one
   abbrev pub begins_recent : (A → ℤ) → List A → List A → Bool
@@ -32,7 +32,7 @@ IsLaterAt time unseen place xs = (d : Event) → place < unseen → time <ℤ (s
 module _ {Z : Type 0} where
   -- the events of both runs, by their times
   abbrev pub events_in : VecDeque Event Z → VecDeque Event Z → List Event
-  events_in settled recent = merged (λ (e : Event). e.time) settled.items recent.items
+  events_in settled recent = merge_by_time (λ (e : Event). e.time) settled.items recent.items
 
   -- how many they are
   abbrev pub many_in : VecDeque Event Z → VecDeque Event Z → ℕ

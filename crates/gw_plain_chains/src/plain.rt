@@ -37,7 +37,7 @@ impl Model for Fec {
     ghost use Rattle.std.specs.Prelude.{◌+◌, ◌≤◌};
     ghost use Rattle.gw_members.specs.Chain.{Chain};
     ghost use Rattle.gw_plain_chains.specs.Orders.{IsInTime};
-    ghost use Rattle.gw_plain_chains.specs.Runs.{merged};
+    ghost use Rattle.gw_plain_chains.specs.Runs.{merge_by_time};
     ghost use Rattle.gw_plain_chains.specs.Runs.{room_for};
     ghost use Rattle.gw_members.specs.declared.tx.Event.{Event};
 
@@ -47,7 +47,7 @@ impl Model for Fec {
         × (deque_len c.settled + deque_len c.recent ≤ deque_capacity c.settled) };
 
     ghost view = { λ c. record {
-      items = merged (λ (e : Event). e.time) c.settled.items c.recent.items;
+      items = merge_by_time (λ (e : Event). e.time) c.settled.items c.recent.items;
       room = room_for (deque_len c.settled + deque_len c.recent) (deque_capacity c.settled) (deque_capacity c.recent);
     } };
 }

@@ -2,7 +2,7 @@
 use Rattle.std.proofs.Common.{◌≡◌, ℕ, ◌<◌, List, [], map, length, get_or, set, sum_by, Global}
 use Rattle.std.specs.VecDeque.{deque_items}
 use Rattle.std.specs.declared.collections.VecDeque.{VecDeque}
-use Rattle.gw_members.specs.Lists.{changed}
+use Rattle.gw_members.specs.Lists.{apply_at}
 use Rattle.gw_members.specs.declared.tx.Tx.{Tx}
 use Rattle.gw_members.proofs.Each.{Stands, stands, all_kept, many_kept, one_changed}
 
@@ -20,5 +20,5 @@ module _ (chains : List (VecDeque Tx Global)) (shown : List (List Tx)) (e : ℕ)
       ≡ sum_by length (map deque_items (set chains e v))
   linked_kept = many_kept deque_items chains shown e q v is within here
 
-  pub chain_changed : (g : List Tx → List Tx) → v.items ≡ g q.items → map deque_items (set chains e v) ≡ changed e g shown
+  pub chain_changed : (g : List Tx → List Tx) → v.items ≡ g q.items → map deque_items (set chains e v) ≡ apply_at e g shown
   chain_changed = one_changed deque_items chains shown e q v is within here

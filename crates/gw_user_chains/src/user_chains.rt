@@ -3,7 +3,7 @@
 ghost use Rattle.std.specs.Prelude.{◌≡◌, ◌≤◌, ◌<◌, ◌+◌, ◌^◌, [], ◌∷◌, ◌++◌, length, replicate, EachIndex, SomeIndex, sum_by, IfOk, OnOk, OnErr};
 ghost use Rattle.gw_num.specs.Table.{at};
 ghost use Rattle.gw_members.specs.Chain.{first, rest};
-ghost use Rattle.gw_members.specs.Lists.{changed, LosesRoom};
+ghost use Rattle.gw_members.specs.Lists.{apply_at, LosesRoom};
 ghost use Rattle.gw_user_chains.specs.Ends.{with_one_at};
 ghost use Rattle.std.specs.VecDeque.{deque_len, deque_capacity};
 
@@ -93,7 +93,7 @@ impl UserChains {
     pub fn push_front(&mut self, chain: u16, tx: Tx)
         requires there { chain < length self.old.lists }
         requires room { 0 < at 0 self.old.rooms chain }
-        ensures lists { self.new.lists ≡ changed chain (λ xs. tx ∷ xs) self.old.lists }
+        ensures lists { self.new.lists ≡ apply_at chain (λ xs. tx ∷ xs) self.old.lists }
         ensures count { length self.new.lists ≡ length self.old.lists }
         ensures room { LosesRoom 1 self.old.rooms self.new.rooms }
     {
@@ -104,7 +104,7 @@ impl UserChains {
     pub fn push_back(&mut self, chain: u16, tx: Tx)
         requires there { chain < length self.old.lists }
         requires room { 0 < at 0 self.old.rooms chain }
-        ensures lists { self.new.lists ≡ changed chain (λ xs. xs ++ tx ∷ []) self.old.lists }
+        ensures lists { self.new.lists ≡ apply_at chain (λ xs. xs ++ tx ∷ []) self.old.lists }
         ensures count { length self.new.lists ≡ length self.old.lists }
         ensures room { LosesRoom 1 self.old.rooms self.new.rooms }
     {
@@ -115,7 +115,7 @@ impl UserChains {
     fn push_at(&mut self, chain: u16, end: End, tx: Tx)
         requires there { chain < length self.old.lists }
         requires room { 0 < at 0 self.old.rooms chain }
-        ensures lists { self.new.lists ≡ changed chain (with_one_at end tx) self.old.lists }
+        ensures lists { self.new.lists ≡ apply_at chain (with_one_at end tx) self.old.lists }
         ensures count { length self.new.lists ≡ length self.old.lists }
         ensures room { LosesRoom 1 self.old.rooms self.new.rooms }
     {
@@ -127,7 +127,7 @@ impl UserChains {
     pub fn unlink(&mut self, chain: u16) -> Option<Tx>
         requires { chain < length self.old.lists }
         ensures first { result ≡ first (at [] self.old.lists chain) }
-        ensures lists { self.new.lists ≡ changed chain rest self.old.lists }
+        ensures lists { self.new.lists ≡ apply_at chain rest self.old.lists }
         ensures count { length self.new.lists ≡ length self.old.lists }
         ensures room { LosesRoom 0 self.old.rooms self.new.rooms }
     {

@@ -2,7 +2,7 @@ use Rattle.std.proofs.Common.{rules, ◌≡◌, ◌∙◌, ap, ◌≤ℤ◌}
 use Rattle.std.specs.Prelude.{int_le, AllPairs}
 use Rattle.std.proofs.lemmas.List.Sorted.{IsPartitionPoint-from_clause}
 use Rattle.gw_members.specs.Chain.{in_time}
-use Rattle.gw_plain_chains.specs.Runs.{merged}
+use Rattle.gw_plain_chains.specs.Runs.{merge_by_time}
 use Rattle.gw_members.specs.declared.tx.Event.{Event}
 use Rattle.gw_plain_chains.proofs.Merging.{merged_newcomer}
 use Rattle.gw_chains.proofs.Places.{in_order, ranks_in_time}
@@ -19,7 +19,7 @@ placed c =
 
 pub returns-clause-items : goal.returns-clause-items
 returns-clause-items c =
-    ap (merged (λ (e : Event). e.time) c.make_way.new.settled.items) (placed c).1
+    ap (merge_by_time (λ (e : Event). e.time) c.make_way.new.settled.items) (placed c).1
     ∙ merged_newcomer (λ (e : Event). e.time) c.args.event c.make_way.new.settled.items c.make_way.new.recent.items c.make_way.ensures.ordered
     ∙ ap (in_time (λ (e : Event). e.time) c.args.event) c.make_way.ensures.items
 

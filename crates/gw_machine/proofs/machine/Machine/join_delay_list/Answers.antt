@@ -4,7 +4,7 @@ use Rattle.gw_machine.proofs.AtRest.{few-waits}
 use Rattle.gw_num.specs.Table.{at}
 use Rattle.std.proofs.lemmas.Int.{to_z-of_z}
 use Rattle.gw_members.specs.Chain.{behind}
-use Rattle.gw_members.specs.Lists.{changed}
+use Rattle.gw_members.specs.Lists.{apply_at}
 use Rattle.gw_members.specs.declared.tx.Member.{Member}
 use Rattle.gw_machine.proofs.Waiters.{state-waits, linked-waits}
 use Rattle.gw_machine.specs.Shown.{configuration_of}
@@ -13,7 +13,7 @@ use Rattle.gw_machine.specs.View.{state_of}
 use Rattle.gw_machine.proofs.machine.Machine.join_delay_list.Goals as goal
 
 joined : (c : goal.After-push_wait) → c.push_wait.new.self.lists
-    ≡ changed c.args.entity (behind (λ (x : Member). x.priority) (record { tx = c.args.tx; priority = c.args.priority }))
+    ≡ apply_at c.args.entity (behind (λ (x : Member). x.priority) (record { tx = c.args.tx; priority = c.args.priority }))
     (configuration_of c.self.inside).waits.lists
 joined c = let fits = c.ranges.priority in simp to_z-of_z at c.push_wait.ensures.lists
 
