@@ -35,6 +35,8 @@ const MOST_LIVE: usize = 65_536;
 pub enum Made {
     /// The change that it is for.
     Step,
+    /// The change that it is for, which brings a named end.
+    Last,
     /// No change: it comes to a named end.
     Ends(End),
 }
@@ -169,6 +171,7 @@ impl Machine {
     }
 
     /// The transaction enters its next block, and its mark time is the clock from now on.
+    #[inline(always)]
     pub fn enter_marked(&mut self, tx: Tx, transaction: Transaction)
         requires held { Holds self.old.transactions tx }
         requires rank { priority_of self.old.transactions.txs tx.number ≡ transaction.priority }

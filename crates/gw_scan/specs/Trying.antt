@@ -7,7 +7,7 @@ use Rattle.gw_machine.specs.Configuration.{Configuration}
 use Rattle.gw_machine.specs.Leaving.{Becomes, Stays}
 use Rattle.gw_machine.specs.View.{state_of}
 use Rattle.gw_machine.specs.declared.machine.Made.{Made}
-use Rattle.gw_machine.specs.declared.machine.Made.TheVariants.{Step, Ends}
+use Rattle.gw_machine.specs.declared.machine.Made.TheVariants.{Step, Last, Ends}
 use Rattle.gw_members.specs.declared.tx.Tx.{Tx}
 use Rattle.gw_object.specs.declared.parts.Parts.{Parts}
 use Rattle.gw_operands.specs.Values.{operands}
@@ -16,6 +16,7 @@ use Rattle.gw_scan.specs.Makes.{MakesFrom}
 use Rattle.gw_scan.specs.Visiting.{IsVisit, MayMake, meets_its_next}
 use Rattle.gw_scan.specs.declared.both.Before.{Before}
 use Rattle.gw_scan.specs.declared.visit.Visit.{Visit}
+use Rattle.gw_step.specs.Job.{IsFinal}
 use Rattle.gw_step.specs.Outcome.{Outcome, Gives, EndsBy, ◌>>=◌, end_by, evaluation_outcome}
 use Rattle.gw_step.specs.Placing.{place_by}
 use Rattle.gw_step.specs.State.{State, with_streams}
@@ -142,11 +143,11 @@ pub record HasOneNext (v : Visit) (outcome : Outcome State) (before : Before) (o
   pub last : new.last ≡ old.last
   pub may : MayMake (visit_towards to v) new
 
--- so it is; or it is done; or there was no memory for it, and the machine stays in its state
+-- so it is; or it is done, by what brings no named end; or there was no memory for it, and the machine stays in its state
 abbrev pub GoesOn : {E : Type 0} → Result (Option Made) E → Visit → (State → Outcome State) → Before → Configuration → Configuration → Type 0
 GoesOn (Ok None) v outcome before old new = (to : ℕ) × HasOneNext v (outcome (state_of old)) before old new to
 GoesOn (Ok (Some made)) v outcome before old new =
-    MakesFrom made outcome old new × (before.turned ≡ false)
+    MakesFrom made outcome old new × (before.turned ≡ false) × (made ≡ Step → new.ended ≡ old.ended)
 GoesOn (Err memory) v outcome before old new = Stays old new × (before.turned ≡ false)
 
 -- the visit of a transaction by its handle
@@ -162,6 +163,8 @@ GoesOnByHandle result verified tx before old new =
 -- what was done gives the new state; or it is an end, or there was no memory for it, and then it has to be undone
 abbrev pub MakesOrUndoes : {E : Type 0} → Result Made E → (State → Outcome State) → Before → Configuration → Configuration → Type 0
 MakesOrUndoes (Ok Step) outcome before old new = (outcome (state_of old) ≡ Gives (state_of new)) × (new.last ≡ old.last)
+MakesOrUndoes (Ok Last) outcome before old new =
+    (outcome (state_of old) ≡ Gives (state_of new)) × IsFinal (state_of new) × (new.last ≡ old.last)
 MakesOrUndoes (Ok (Ends end)) outcome before old new =
     (outcome (state_of old) ≡ EndsBy end) × (undo_from before (state_of new) ≡ state_of old) × (new.last ≡ old.last)
 MakesOrUndoes (Err memory) outcome before old new = (undo_from before (state_of new) ≡ state_of old) × (new.last ≡ old.last)

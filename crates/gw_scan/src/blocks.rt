@@ -1,7 +1,7 @@
 //! What the active transaction does at its next block.
 #![tactic(auto, unfolding(gw_step::specs::Blocks::act, gw_step::specs::Blocks::effect))]
 
-ghost use Rattle.std.specs.Prelude.{◌≡◌, ◌≤◌, ◌<◌, ◌+◌, pos, ◌≤ℤ◌, [], true, length, map};
+ghost use Rattle.std.specs.Prelude.{◌≡◌, ◌≤◌, ◌<◌, ◌+◌, pos, ◌≤ℤ◌, [], true, None, length, map};
 ghost use Rattle.gw_num.specs.Table.{at};
 ghost use Rattle.gw_entities.specs.Facility.{is_idle as is_idle_now};
 ghost use Rattle.gw_step.specs.Changes as change;
@@ -10,7 +10,7 @@ ghost use Rattle.gw_machine.specs.View.{state_of, entity_count};
 ghost use Rattle.gw_machine.specs.Leaving.{BecomesBy, BecomesOnOk};
 ghost use Rattle.gw_machine.specs.Spans.{spread_of};
 ghost use Rattle.gw_scan.specs.Origins.{generate_of, origin};
-ghost use Rattle.gw_scan.specs.Makes.{MakesOnOk};
+ghost use Rattle.gw_scan.specs.Makes.{IsToldStep, MakesOnOk, RunsOn};
 ghost use Rattle.gw_scan.specs.Visiting.{Acts, ActsOnOk, IsEntering, IsVisit, MayMake, Meets, arrival_with, arrival_drawn, falls_and_hands_over, falls_and_admits, leaves_after, enters_and_leaves, meets_its_next};
 
 use crate::decoding::{Arrivals, Decoded, decoded_at};
@@ -31,6 +31,17 @@ fn chosen(block: u16, fraction: Fraction, drawn: i64) -> u16
     } else {
         fraction.otherwise.unwrap_or(block + 1)
     }
+}
+
+/// What a step made that may have brought a named end.
+#[inline(always)]
+fn told_step(machine: &Machine) -> Made
+    ensures { IsToldStep result machine.now }
+{
+    if machine.named_end().is_some() {
+        return Made::Last;
+    }
+    Made::Step
 }
 
 impl Visit<'_> {
@@ -344,18 +355,20 @@ impl Visit<'_> {
     /// TERMINATE by a constant.
     fn terminate_by(&self, machine: &mut Machine, by: u32) -> Result<Made, Memory>
         requires { Meets self.now machine.old (Block.Terminate (Operand.Constant (pos by))) }
-        ensures { ActsOnOk result self.now (Block.Terminate (Operand.Constant (pos by)))
+        ensures made { ActsOnOk result self.now (Block.Terminate (Operand.Constant (pos by)))
             machine.old machine.new }
+        ensures on { RunsOn result machine.new }
     {
         self.enter_and_leave(machine, i64::from(by))?;
-        Ok(Made::Step)
+        Ok(told_step(machine))
     }
 
     /// TERMINATE: the transaction, which owns nothing, is destroyed, and the termination count falls. Less than 0 is a
     /// named end.
     fn terminate(&self, machine: &mut Machine, by: Operand) -> Result<Made, Memory>
         requires { Meets self.now machine.old (Block.Terminate by) }
-        ensures { ActsOnOk result self.now (Block.Terminate by) machine.old machine.new }
+        ensures made { ActsOnOk result self.now (Block.Terminate by) machine.old machine.new }
+        ensures on { RunsOn result machine.new }
     {
         let mut streams = machine.streams();
         let by = match self.value(machine, by, &mut streams) {
@@ -366,7 +379,7 @@ impl Visit<'_> {
             return Ok(Made::Ends(End::Number));
         }
         self.pass_and_leave(machine, by, &streams)?;
-        Ok(Made::Step)
+        Ok(told_step(machine))
     }
 
     // THE STEP
@@ -376,7 +389,8 @@ impl Visit<'_> {
     pub(crate) fn meet(&self, machine: &mut Machine, decoded: &[Decoded]) -> Result<Made, Memory>
         requires may { MayMake self.now machine.old }
         requires table { map origin decoded.now ≡ self.now.verified.now.blocks }
-        ensures { MakesOnOk result (meets_its_next self.now) machine.old machine.new }
+        ensures made { MakesOnOk result (meets_its_next self.now) machine.old machine.new }
+        ensures on { machine.old.ended ≡ None → RunsOn result machine.new }
     {
         let block = decoded_at(decoded, self.transaction.next);
         self.act(machine, block)
@@ -386,7 +400,8 @@ impl Visit<'_> {
     #[inline(always)]
     pub(crate) fn act(&self, machine: &mut Machine, block: &Decoded) -> Result<Made, Memory>
         requires { Meets self.now machine.old (origin block.now) }
-        ensures { ActsOnOk result self.now (origin block.now) machine.old machine.new }
+        ensures made { ActsOnOk result self.now (origin block.now) machine.old machine.new }
+        ensures on { model.is_terminate (origin block.now) ≡ true → RunsOn result machine.new }
     {
         match block {
             Decoded::GenerateWithin(arrivals) => self.generate_within(machine, *arrivals),

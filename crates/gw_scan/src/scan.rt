@@ -1,12 +1,12 @@
 //! The scan: who is active next, and one step.
 
-ghost use Rattle.std.specs.Prelude.{◌≡◌, ◌<◌, ◌^◌, Some, None, false, map, OnOk, OnErr};
+ghost use Rattle.std.specs.Prelude.{◌≡◌, ◌<◌, ◌^◌, Some, None, false, is_some, map, IfOk, OnOk, OnErr};
 ghost use Rattle.gw_transactions.specs.Transactions.{Holds, attributes_at};
 ghost use Rattle.gw_step.specs.Step as model;
 ghost use Rattle.gw_machine.specs.View.{state_of};
 ghost use Rattle.gw_machine.specs.Coherence.{IsRunning};
 ghost use Rattle.gw_scan.specs.Origins.{origin};
-ghost use Rattle.gw_scan.specs.Makes.{MakesOnOk, StepsPastBudget};
+ghost use Rattle.gw_scan.specs.Makes.{MakesOnOk, RunsOn, StepsPastBudget, scan_outcome};
 ghost use Rattle.gw_scan.specs.Trying.{MakesOrUndoes, IsAsBefore};
 ghost use Rattle.gw_scan.specs.Visiting.{IsReady};
 
@@ -64,8 +64,9 @@ fn scan(
     requires ready { IsReady verified.now machine.old }
     requires table { map origin decoded.now ≡ verified.now.blocks }
     requires before { before.old.turned ≡ false }
-    ensures { MakesOrUndoes result (λ s. model.scan verified.now s.lists.active s) before.new
+    ensures made { MakesOrUndoes result (scan_outcome verified.now) before.new
         machine.old machine.new }
+    ensures on { machine.old.ended ≡ None → RunsOn result machine.new }
 {
     let tx = match machine.active() {
         Some(tx) => tx,
@@ -89,37 +90,45 @@ fn scan(
     onward.meet(machine, decoded)
 }
 
-/// One step of a running job, but that its budget doesn't end it; on Memory nothing changes. What the step would have to undo
-/// is kept in `before`.
+/// One step of a running job, but that its budget doesn't end it, and whether a named end stands then; on Memory nothing changes.
+/// What the step would have to undo is kept in `before`. An end is looked for only where a block may have brought one.
 #[inline(always)]
 pub(crate) fn step_past_budget(
     machine: &mut Machine,
     verified: &Verified,
     decoded: &[Decoded],
     before: &mut Before,
-) -> Result<(), Memory>
+) -> Result<bool, Memory>
     requires ready { IsReady verified.now machine.old }
     requires table { map origin decoded.now ≡ verified.now.blocks }
     requires runs { machine.old.ended ≡ None }
     requires few { machine.old.steps < 2 ^ 60 }
     ensures made { OnOk result (StepsPastBudget verified.now
         (state_of machine.old) (state_of machine.new)) }
+    ensures ended { IfOk result (λ ended. ended ≡ is_some machine.new.ended) }
     ensures slots { machine.new.last ≡ machine.old.last }
     ensures err { OnErr result (state_of machine.new ≡ state_of machine.old) }
 {
     before.turned = false;
     match scan(machine, verified, decoded, before) {
-        Ok(Made::Step) => machine.add_step(),
+        Ok(Made::Step) => {
+            machine.add_step();
+            Ok(false)
+        }
+        Ok(Made::Last) => {
+            machine.add_step();
+            Ok(true)
+        }
         Ok(Made::Ends(end)) => {
             undo(machine, before);
             machine.end_by(end);
+            Ok(true)
         }
         Err(memory) => {
             undo(machine, before);
-            return Err(memory);
+            Err(memory)
         }
     }
-    Ok(())
 }
 
 /// One step of a running job; on Memory nothing changes.
@@ -139,7 +148,7 @@ pub(crate) fn step(
     ensures err { OnErr result (state_of machine.new ≡ state_of machine.old) }
 {
     let mut before = nothing_before(machine.streams());
-    step_past_budget(machine, verified, decoded, &mut before)?;
+    let _ = step_past_budget(machine, verified, decoded, &mut before)?;
     machine.end_at_budget(budget);
     Ok(())
 }

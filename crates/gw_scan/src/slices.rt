@@ -46,8 +46,13 @@ fn run_until(spec: &Spec, machine: &mut Machine, until: u64) -> Result<(), Memor
     let verified = spec.verified_object();
     let decoded = spec.decoded();
     let mut before = nothing_before(machine.streams());
-    while machine.steps() < until && machine.named_end().is_none() {
-        step_past_budget(machine, verified, decoded, &mut before)?;
+    if machine.named_end().is_some() {
+        return Ok(());
+    }
+    while machine.steps() < until {
+        if step_past_budget(machine, verified, decoded, &mut before)? {
+            return Ok(());
+        }
     }
     machine.end_at_budget(spec.budget());
     Ok(())

@@ -35,7 +35,7 @@ use Rattle.gw_step.specs.Placing.{place_by, woken_if_stirred}
 use Rattle.gw_step.specs.Typing.{IsWoken}
 use Rattle.gw_step.specs.Blocks.{refuses, refused_placement, is_owed, next_arrival, choice_of, passes_test, is_so, led_by, block_after, put_by}
 use Rattle.gw_step.specs.Blocks.{loop_target, switch_after, the_value, plus, split, assembly_at, joined_by_one, first_unlinked, unlink_members}
-use Rattle.gw_step.specs.Blocks.{taken_by, unlink, assemble_in, assemble, is_priority, effect, then_placed, meets, act}
+use Rattle.gw_step.specs.Blocks.{taken_by, unlink, assemble_in, assemble, is_priority, is_terminate, effect, then_placed, meets, act}
 use Rattle.gw_step.specs.Turning.{two_next, towards, turn_to}
 use Rattle.gw_step.specs.Step.{next_event, next_active, meets_one, refusal, tries, goes_on, scan}
 use Rattle.gw_step.proofs.Outcomes.{OnGives, on_bind, on_test, on_if, on_both, choose, by_option}
@@ -59,13 +59,28 @@ counted_then s t u c steps ended count = record {
   ];
 }
 
--- an entry counts so, and who is active stays so
+-- an entry of a block that isn't a TERMINATE changes none of them, and who is active stays so
 record Enters (s t : State) : Type 0 where
-  counted : IsCounted s t
+  steps : t.steps ≡ s.steps
+  ended : t.ended ≡ s.ended
+  count : t.count ≡ s.count
   active : t.lists.active ≡ s.lists.active
 
 enters_on : (s t u : State) → Enters s t → Stays t u → Enters s u
-enters_on s t u e h = record { counted = counted_then s t u e.counted h.steps h.ended h.count; active = h.active ∙ e.active }
+enters_on s t u e h = record {
+  steps = h.steps ∙ e.steps;
+  ended = h.ended ∙ e.ended;
+  count = h.count ∙ e.count;
+  active = h.active ∙ e.active;
+}
+
+-- any entry counts so, and who is active stays so
+record Counts (s t : State) : Type 0 where
+  counted : IsCounted s t
+  active : t.lists.active ≡ s.lists.active
+
+entry_counts : (s t : State) → Enters s t → Counts s t
+entry_counts s t e = record { counted = record { steps = e.steps; ended = inl (e.ended, e.count) }; active = e.active }
 
 -- a scan counts so, and where nobody is active then the retry list was woken since the last entry
 record Scans (s t : State) : Type 0 where
@@ -126,7 +141,7 @@ module _ (s : State) where
 
   -- it passes, and an entity changes
   passed : (t : State) → t.steps ≡ s.steps → t.ended ≡ s.ended → t.count ≡ s.count → t.lists.active ≡ s.lists.active → Enters s t
-  passed t steps ended count active = record { counted = record { steps = steps; ended = inl (ended, count) }; active = active }
+  passed t steps ended count active = record { steps = steps; ended = ended; count = count; active = active }
 
   arrival_stays : (p : Parts) (b : ℕ) (g : Generate) → OnGives (Stays s) (next_arrival p b g s)
   arrival_stays p b g =
@@ -171,99 +186,129 @@ module _ (s : State) where
       on_test Entered (may_enter (block_at p.blocks (t.next + 1))) _
       (on_if Entered (taken_by u s == 0) _ _ made (on_test Entered (may_enter (block_at p.blocks u.target)) _ made))
 
-  effect_counted : (p : Parts) (n : ℕ) (t : Transaction) (block : Block) (values : List ℤ) → OnGives Entered (effect p n t block values s)
+  effect_enters : (p : Parts) (n : ℕ) (t : Transaction) (block : Block) (values : List ℤ) → is_terminate block ≡ false
+      → OnGives Entered (effect p n t block values s)
   unfolding effect
-  effect_counted p n t (blocks.Generate g) values =
+  effect_enters p n t (blocks.Generate g) values other =
       on_both (Stays s) Entered (next_arrival p t.next g s) _ (arrival_stays p t.next g)
       (λ u h. on_test Entered (may_enter (block_at p.blocks (t.next + 1))) _
       (passed (enters_and_falls n (record t { mark = s.clock }) u) h.steps h.ended h.count h.active))
-  effect_counted p n t (blocks.Terminate by) values =
-      on_if Entered (int_lt (the_value values) (pos 0)) (EndsBy Number) _ tt
-      (on_test Entered (not (owns_any n s.entities.facilities)) _ (record { counted = record { steps = refl; ended = inr refl }; active = refl }))
-  effect_counted p n t (blocks.Advance time) values =
+  effect_enters p n t (blocks.Terminate by) values other = absurd cc
+  effect_enters p n t (blocks.Advance time) values other =
       on_bind Entered (moment_after s.clock (the_value values)) _
       (λ moment _. on_test Entered (may_enter (block_at p.blocks (t.next + 1))) _ (passed (enters_and_falls n t s) refl refl refl refl))
-  effect_counted p n t (blocks.Seize f) values =
+  effect_enters p n t (blocks.Seize f) values other =
       on_test Entered (may_enter (block_at p.blocks (t.next + 1))) _
       (on_case Entered (seizure_by n (facility f s)) _ (λ r. passed (put_facility f r.1 (enters_and_falls n t s)) refl refl refl refl))
-  effect_counted p n t (blocks.Release f) values =
+  effect_enters p n t (blocks.Release f) values other =
       on_test Entered (may_enter (block_at p.blocks (t.next + 1))) _ (on_case Entered (release_by n (facility f s)) _
       (λ r. let u = put_facility f r (enters_and_falls n t s) in
       enters_on s u _ (passed u refl refl refl refl) (stays-hand_over p.blocks u f (delay_list f s))))
-  effect_counted p n t (blocks.Enter u) values =
+  effect_enters p n t (blocks.Enter u) values other =
       on_test Entered (may_enter (block_at p.blocks (t.next + 1))) _
       (on_case Entered (entry_of u.number (storage u.entity s)) _ (λ r. passed (put_storage u.entity r.1 (enters_and_falls n t s)) refl refl refl refl))
-  effect_counted p n t (blocks.Leave u) values =
+  effect_enters p n t (blocks.Leave u) values other =
       on_test Entered (may_enter (block_at p.blocks (t.next + 1))) _ (on_case Entered (exit_of u.number (storage u.entity s)) _
       (λ r. let v = put_storage u.entity r (enters_and_falls n t s) in
       enters_on s v _ (passed v refl refl refl refl) (stays-admission p.blocks u.entity (delay_list u.entity s) v)))
-  effect_counted p n t (blocks.Queue u) values =
+  effect_enters p n t (blocks.Queue u) values other =
       on_test Entered (may_enter (block_at p.blocks (t.next + 1))) _
       (passed (put_queue u.entity (with_arrivals u.number (queue u.entity s)) (enters_and_falls n t s)) refl refl refl refl)
-  effect_counted p n t (blocks.Depart u) values =
+  effect_enters p n t (blocks.Depart u) values other =
       on_test Entered (may_enter (block_at p.blocks (t.next + 1))) _
       (on_case Entered (departure_of u.number (queue u.entity s)) _ (λ r. passed (put_queue u.entity r (enters_and_falls n t s)) refl refl refl refl))
-  effect_counted p n t (blocks.Assign a) values =
+  effect_enters p n t (blocks.Assign a) values other =
       on_bind Entered (evaluation_outcome (evaluation_of (put_by a.mode (unwrap_or (parameter_at n a.parameter s.transactions) (pos 0)) (the_value values)))) _
       (λ new _. on_test Entered (may_enter (block_at p.blocks (t.next + 1))) _
       (passed (enters_and_falls n t (assign_to n a.parameter new s)) refl refl refl refl))
-  effect_counted p n t (blocks.Test test) values =
+  effect_enters p n t (blocks.Test test) values other =
       let to = led_by t.next test.otherwise (passes_test test values) in
       on_test Entered (may_enter (block_at p.blocks to)) _ (passed (enter_next n t to s) refl refl refl refl)
-  effect_counted p n t (blocks.Gate gate) values =
+  effect_enters p n t (blocks.Gate gate) values other =
       let to = led_by t.next gate.otherwise (is_so gate.condition gate.entity s) in
       on_test Entered (may_enter (block_at p.blocks to)) _ (passed (enter_next n t to s) refl refl refl refl)
-  effect_counted p n t (blocks.Transfer target) values =
+  effect_enters p n t (blocks.Transfer target) values other =
       on_test Entered (may_enter (block_at p.blocks target)) _ (passed (enter_next n t target s) refl refl refl refl)
-  effect_counted p n t (blocks.TransferByFraction f) values =
+  effect_enters p n t (blocks.TransferByFraction f) values other =
       on_test Entered (may_enter (block_at p.blocks (choice_of t.next f (the_value values)))) _
       (passed (enter_next n t (choice_of t.next f (the_value values)) s) refl refl refl refl)
-  effect_counted p n t (blocks.TransferBoth two) values =
+  effect_enters p n t (blocks.TransferBoth two) values other =
       on_test Entered (may_enter (block_at p.blocks (leads_to t.next (goes_or_falls two.first)))) _
       (on_test Entered (may_enter (block_at p.blocks two.second)) _ (passed (enter_next n t t.next s) refl refl refl refl))
-  effect_counted p n t (blocks.TransferToSubroutine c) values =
+  effect_enters p n t (blocks.TransferToSubroutine c) values other =
       on_test Entered (may_enter (block_at p.blocks c.target)) _ (passed (enter_next n t c.target (assign_to n c.parameter (pos t.next) s)) refl refl refl refl)
-  effect_counted p n t (blocks.TransferByParameter q) values =
+  effect_enters p n t (blocks.TransferByParameter q) values other =
       on_bind Entered (case_of (parameter_at n q s.transactions)) _
       (λ value _. on_test Entered (may_enter (block_at p.blocks (block_after value))) _ (passed (enter_next n t (block_after value) s) refl refl refl refl))
-  effect_counted p n t (blocks.Loop l) values =
+  effect_enters p n t (blocks.Loop l) values other =
       on_bind Entered (case_of (parameter_at n l.parameter s.transactions)) _
       (λ old _. on_bind Entered (evaluation_outcome (evaluation_of (difference_of old (pos 1)))) _
       (λ left _. on_test Entered (may_enter (block_at p.blocks (loop_target t.next l.target left))) _
       (passed (enter_next n t (loop_target t.next l.target left) (assign_to n l.parameter left s)) refl refl refl refl)))
-  effect_counted p n t (blocks.Logic l) values =
+  effect_enters p n t (blocks.Logic l) values other =
       on_test Entered (may_enter (block_at p.blocks (t.next + 1))) _
       (passed (put_switch l.switch (switch_after l.action (switch l.switch s)) (enters_and_falls n t s)) refl refl refl refl)
-  effect_counted p n t (blocks.Savevalue a) values =
+  effect_enters p n t (blocks.Savevalue a) values other =
       on_bind Entered (evaluation_outcome (evaluation_of (put_by a.mode (savevalue a.savevalue s) (the_value values)))) _
       (λ new _. on_test Entered (may_enter (block_at p.blocks (t.next + 1))) _
       (passed (put_savevalue a.savevalue new (enters_and_falls n t s)) refl refl refl refl))
-  effect_counted p n t (blocks.Tabulate e) values =
+  effect_enters p n t (blocks.Tabulate e) values other =
       on_bind Entered (evaluation_outcome (evaluation_of (tabulation_of (the_value values) (table e s)))) _
       (λ new _. on_test Entered (may_enter (block_at p.blocks (t.next + 1))) _ (passed (put_table e new (enters_and_falls n t s)) refl refl refl refl))
-  effect_counted p n t (blocks.Split c) values = split_counted p n t c
-  effect_counted p n t (blocks.Assemble size) values = assemble_counted p n t size
-  effect_counted p n t (blocks.Link l) values = passed (enter_next n t t.next s) refl refl refl refl
-  effect_counted p n t (blocks.Unlink u) values = unlink_counted p n t u
-  effect_counted p n t (blocks.Priority a) values =
+  effect_enters p n t (blocks.Split c) values other = split_counted p n t c
+  effect_enters p n t (blocks.Assemble size) values other = assemble_counted p n t size
+  effect_enters p n t (blocks.Link l) values other = passed (enter_next n t t.next s) refl refl refl refl
+  effect_enters p n t (blocks.Unlink u) values other = unlink_counted p n t u
+  effect_enters p n t (blocks.Priority a) values other =
       on_if Entered (is_priority (the_value values)) _ (EndsBy Number)
       (on_test Entered (may_enter (block_at p.blocks (t.next + 1))) _
       (passed (enters_and_falls n (record t { priority = the_value values }) s) refl refl refl refl)) tt
-  effect_counted p n t (blocks.Plus a) values = plus_counted p n t a.parameter (the_value values)
-  effect_counted p n t (blocks.Mark None) values =
+  effect_enters p n t (blocks.Plus a) values other = plus_counted p n t a.parameter (the_value values)
+  effect_enters p n t (blocks.Mark None) values other =
       on_test Entered (may_enter (block_at p.blocks (t.next + 1))) _ (passed (enters_and_falls n (record t { mark = s.clock }) s) refl refl refl refl)
-  effect_counted p n t (blocks.Mark (Some q)) values =
+  effect_enters p n t (blocks.Mark (Some q)) values other =
       on_test Entered (may_enter (block_at p.blocks (t.next + 1))) _ (passed (enters_and_falls n t (assign_to n q s.clock s)) refl refl refl refl)
-  effect_counted p n t block values = on_test Entered (may_enter (block_at p.blocks (t.next + 1))) _ (passed (enters_and_falls n t s) refl refl refl refl)
+  effect_enters p n t block values other = on_test Entered (may_enter (block_at p.blocks (t.next + 1))) _ (passed (enters_and_falls n t s) refl refl refl refl)
+
+  abbrev Counted : State × Placement → Type 0
+  Counted e = Counts s e.0
+
+  effect_counted : (p : Parts) (n : ℕ) (t : Transaction) (block : Block) (values : List ℤ) → OnGives Counted (effect p n t block values s)
+  unfolding effect
+  effect_counted p n t (blocks.Terminate by) values =
+      on_if Counted (int_lt (the_value values) (pos 0)) (EndsBy Number) _ tt
+      (on_test Counted (not (owns_any n s.entities.facilities)) _ (record { counted = record { steps = refl; ended = inr refl }; active = refl }))
+  effect_counted p n t block values =
+      on_then Entered Counted (effect p n t block values s) (effect_enters p n t block values refl) (λ e h. entry_counts s e.0 h)
 
   meets_scans : (p : Parts) (n : ℕ) (t : Transaction) (block : Block) (values : List ℤ) → s.lists.active ≡ Some n
       → OnGives (Scans s) (meets p n t block values s)
   meets_scans p n t block values active =
       on_if (Scans s) (refuses n block values s) (Gives (place_by n (refused_placement block) s)) (then_placed n (effect p n t block values s))
       (record { counted = counted_same s _ (placed-leaves n (refused_placement block) s); woken = placed_wakes n (refused_placement block) s active })
-      (on_both Entered (Scans s) (effect p n t block values s) _ (effect_counted p n t block values) (λ e h.
+      (on_both Counted (Scans s) (effect p n t block values s) _ (effect_counted p n t block values) (λ e h.
       let left = placed-leaves n e.1 e.0 in
       record { counted = counted_then s e.0 _ h.counted left.steps left.ended left.count; woken = placed_wakes n e.1 e.0 (h.active ∙ active) }))
+
+  meets_keeps : (p : Parts) (n : ℕ) (t : Transaction) (block : Block) (values : List ℤ) → is_terminate block ≡ false
+      → OnGives (λ (u : State). u.ended ≡ s.ended) (meets p n t block values s)
+  meets_keeps p n t block values other =
+      on_if (λ (u : State). u.ended ≡ s.ended) (refuses n block values s) (Gives (place_by n (refused_placement block) s))
+      (then_placed n (effect p n t block values s)) (placed-leaves n (refused_placement block) s).ended
+      (on_both Entered (λ (u : State). u.ended ≡ s.ended) (effect p n t block values s) _ (effect_enters p n t block values other)
+      (λ e h. (placed-leaves n e.1 e.0).ended ∙ h.ended))
+
+act_keeps : (p : Parts) (n : ℕ) (t : Transaction) (block : Block) (s : State) → is_terminate block ≡ false
+    → OnGives (λ (u : State). u.ended ≡ s.ended) (act p n t block s)
+unfolding act
+act_keeps p n t block s other =
+    on_bind (λ (u : State). u.ended ≡ s.ended) (evaluation_outcome (operands p (environment_of n t s) block s.streams)) _
+    (λ read _. meets_keeps (with_streams read.1 s) p n t block read.0 other)
+
+-- where the block that is met isn't a TERMINATE, the end stays
+pub end_stays : (p : Parts) (n : ℕ) (t : Transaction) (block : Block) (s u : State) → is_terminate block ≡ false → act p n t block s ≡ Gives u
+    → u.ended ≡ s.ended
+end_stays p n t block s u other made = subst (OnGives (λ (v : State). v.ended ≡ s.ended)) made (act_keeps p n t block s other)
 
 act_scans : (p : Parts) (n : ℕ) (t : Transaction) (block : Block) (s : State) → s.lists.active ≡ Some n → OnGives (Scans s) (act p n t block s)
 unfolding act

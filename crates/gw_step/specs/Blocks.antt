@@ -95,6 +95,11 @@ is_so StorageEmpty e s = is_empty (storage e s)
 is_so StorageNotFull e s = not (is_full (storage e s))
 is_so StorageNotEmpty e s = not (is_empty (storage e s))
 
+-- a TERMINATE, the one block at which the termination count falls
+abbrev pub is_terminate : Block → Bool
+is_terminate (blocks.Terminate by) = true
+is_terminate block = false
+
 -- a block with these operand values refuses the transaction n: a SEIZE of a facility that another owns, an ENTER of
 -- units that are within the capacity and not free, and a TEST or a GATE that is false and names no other block
 abbrev pub refuses : ℕ → Block → List ℤ → State → Bool

@@ -1,59 +1,93 @@
-use Rattle.std.proofs.Common.{rules, ◌≡◌, ◌+◌, ◌-◌, ◌<◌, Some, None, sym, ◌∙◌, subst, arith}
+use Rattle.std.proofs.Common.{rules, ◌≡◌, ◌+◌, ◌-◌, ◌<◌, Option, Some, None, false, refl, sym, ◌∙◌, subst, arith}
+use Rattle.std.specs.Prelude.{is_some}
+use Rattle.gw_machine.specs.Configuration.{Configuration}
 use Rattle.gw_machine.specs.View.{state_of}
 use Rattle.gw_object.specs.declared.parts.Parts.{Parts}
 use Rattle.gw_step.proofs.LeftByEnds.{steps_are_counted}
 use Rattle.gw_step.proofs.Reached.{reached_more}
-use Rattle.gw_step.specs.Job.{IsReached, Step}
+use Rattle.gw_step.specs.Job.{Job, IsReached, Step}
 use Rattle.gw_step.specs.State.{State}
 use Rattle.gw_step.specs.Step.{step, within_budget}
+use Rattle.gw_step.specs.declared.ends.End.{End}
 use Rattle.gw_scan.proofs.Running.{is_ready}
-use Rattle.gw_scan.proofs.Slicing.{below_budget, steps_stay}
+use Rattle.gw_scan.proofs.Slicing.{below_budget, ended_stays, steps_stay}
+use Rattle.gw_scan.specs.Makes.{StepsPastBudget}
 use Rattle.gw_scan.specs.Visiting.{IsReady}
 use Rattle.gw_scan.proofs.slices.run_until.Goals as goal
 
 pub step_past_budget-requires-clause-ready : goal.step_past_budget-requires-clause-ready
 step_past_budget-requires-clause-ready c =
-    let m = c.loop-machine.machine in
+    let m = c.loop-verified.machine in
     let j = c.args.spec.now in
-    let i = c.loop-machine.invariant in
-    let runs : m.ended ≡ None = search rules in
+    let i = c.loop-verified.invariant in
     let below : m.steps < j.budget = search rules in
     let reached = subst (λ (s : State). IsReached (record { job = j; state = s })) (below_budget j.budget (state_of m) below) i.0 in
-    subst (λ (p : Parts). IsReady p m) (sym c.verified_object-verified.ensures.value) (is_ready j m reached runs (i.1 ∙ c.requires.slots))
+    subst (λ (p : Parts). IsReady p m) (sym c.verified_object-verified.ensures.value) (is_ready j m reached i.4 (i.1 ∙ c.requires.slots))
 
-made : (c : goal.In_ok-step_past_budget)
-    → Step c.args.spec.now (state_of c.loop-machine.machine) (within_budget c.args.spec.now.budget (state_of c.step_past_budget.new.machine))
-made c =
-    let j = c.args.spec.now in
-    subst (λ (p : Parts). step p j.budget (state_of c.loop-machine.machine)
-    ≡ Some (within_budget j.budget (state_of c.step_past_budget.new.machine))) c.verified_object-verified.ensures.value
-    (c.in_ok-step_past_budget.ensures.made j.budget)
+-- a step is made of a running job
+module _ (j : Job) (p : Parts) (m new : Configuration) (parts : p ≡ j.parts) (made : StepsPastBudget p (state_of m) (state_of new)) where
+  leads : Step j (state_of m) (within_budget j.budget (state_of new))
+  leads = subst (λ (q : Parts). step q j.budget (state_of m) ≡ Some (within_budget j.budget (state_of new))) parts (made j.budget)
 
-counted : (c : goal.In_ok-step_past_budget) → c.step_past_budget.new.machine.steps ≡ c.loop-machine.machine.steps + 1
-counted c =
-    let j = c.args.spec.now in
-    let s = state_of c.loop-machine.machine in
-    let t = state_of c.step_past_budget.new.machine in
-    sym (steps_stay j.budget t) ∙ steps_are_counted j s (within_budget j.budget t) (made c)
+  counted : new.steps ≡ m.steps + 1
+  counted = sym (steps_stay j.budget (state_of new)) ∙ steps_are_counted j (state_of m) (within_budget j.budget (state_of new)) leads
 
-pub loop-machine-smaller : goal.loop-machine-smaller
-loop-machine-smaller c =
-    let below : c.loop-machine.machine.steps < c.args.until = search rules in
-    let smaller : c.args.until - c.step_past_budget.new.machine.steps < c.args.until - c.loop-machine.machine.steps = omega (arith, counted c, below) in
+  reached_then : IsReached (record { job = j; state = within_budget j.budget (state_of m) }) → m.steps < j.budget → m.ended ≡ None
+      → IsReached (record { job = j; state = within_budget j.budget (state_of new) })
+  reached_then reached below runs =
+      let from = subst (λ (s : State). IsReached (record { job = j; state = s })) (below_budget j.budget (state_of m) below) reached in
+      reached_more j (state_of m) (within_budget j.budget (state_of new)) from runs leads
+
+none_stands : (end : Option End) → is_some end ≡ false → end ≡ None
+none_stands None is = refl
+none_stands (Some end) is = absurd cc
+
+pub loop-verified-smaller : goal.loop-verified-smaller
+loop-verified-smaller c =
+    let m = c.loop-verified.machine in
+    let new = c.step_past_budget.new.machine in
+    let more = counted c.args.spec.now _ m new c.verified_object-verified.ensures.value c.in_ok-step_past_budget.ensures.made in
+    let below : m.steps < c.args.until = search rules in
+    let smaller : c.args.until - new.steps < c.args.until - m.steps = omega (arith, more, below) in
     smaller
 
-pub loop-machine-preserved : goal.loop-machine-preserved
-loop-machine-preserved c =
-    let m = c.loop-machine.machine in
-    let j = c.args.spec.now in
-    let i = c.loop-machine.invariant in
-    let runs : m.ended ≡ None = search rules in
-    let until : m.steps < c.args.until = search rules in
-    let below : m.steps < j.budget = omega (arith, until, c.requires.allowed) in
-    let reached = subst (λ (s : State). IsReached (record { job = j; state = s })) (below_budget j.budget (state_of m) below) i.0 in
-    let t = within_budget j.budget (state_of c.step_past_budget.new.machine) in (
-      reached_more j (state_of m) t reached runs (made c),
+pub loop-verified-preserved : goal.loop-verified-preserved
+loop-verified-preserved c =
+    let m = c.loop-verified.machine in
+    let new = c.step_past_budget.new.machine in
+    let i = c.loop-verified.invariant in
+    let made = c.in_ok-step_past_budget.ensures.made in
+    let parts = c.verified_object-verified.ensures.value in
+    let more = counted c.args.spec.now _ m new parts made in
+    let below : m.steps < c.args.until = search rules in (
+      reached_then c.args.spec.now _ m new parts made i.0 (omega (arith, below, c.requires.allowed)) i.4,
       c.step_past_budget.ensures.slots ∙ i.1,
-      omega (arith, counted c, i.2),
-      omega (arith, counted c, until),
+      omega (arith, more, i.2),
+      omega (arith, more, below),
+      none_stands new.ended (sym c.in_ok-step_past_budget.ensures.ended ∙ c.if-branch.false),
     )
+
+pub returns-then-branch-clause-reached : goal.returns-then-branch-clause-reached
+returns-then-branch-clause-reached c =
+    let m = c.loop-verified.machine in
+    let new = c.step_past_budget.new.machine in
+    let j = c.args.spec.now in
+    let i = c.loop-verified.invariant in
+    let below : m.steps < c.args.until = search rules in
+    let reached = reached_then j _ m new c.verified_object-verified.ensures.value c.in_ok-step_past_budget.ensures.made i.0
+    (omega (arith, below, c.requires.allowed)) i.4 in
+    subst (λ (s : State). IsReached (record { job = j; state = s }))
+    (ended_stays j.budget (state_of new) (sym c.in_ok-step_past_budget.ensures.ended ∙ c.if-branch.true)) reached
+
+pub returns-then-branch-clause-rise : goal.returns-then-branch-clause-rise
+returns-then-branch-clause-rise c =
+    let more = counted c.args.spec.now _ c.loop-verified.machine c.step_past_budget.new.machine c.verified_object-verified.ensures.value
+    c.in_ok-step_past_budget.ensures.made in
+    omega (arith, more, c.loop-verified.invariant.2)
+
+pub returns-then-branch-clause-most : goal.returns-then-branch-clause-most
+returns-then-branch-clause-most c =
+    let more = counted c.args.spec.now _ c.loop-verified.machine c.step_past_budget.new.machine c.verified_object-verified.ensures.value
+    c.in_ok-step_past_budget.ensures.made in
+    let below : c.loop-verified.machine.steps < c.args.until = search rules in
+    omega (arith, more, below)
