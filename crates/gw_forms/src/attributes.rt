@@ -3,7 +3,7 @@
 use crate::form::{Form, Test};
 
 /// Attributes.
-pub(crate) const ATTRIBUTES: [Form; 25] = [
+pub(crate) const ATTRIBUTES: &[Form] = &[
     Form {
         name: "SR",
         codes: [75, 80, 0],

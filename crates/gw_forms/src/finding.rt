@@ -88,31 +88,31 @@ fn found_among(line: &Line<'_>, forms: &[Form], code: u16) -> Option<Found>
 fn found_in_numbers(line: &Line<'_>, code: u16) -> Option<Found>
     ensures { IfSome result (λ f. IsWithin f.from f.to line.now.bytes.now) }
 {
-    found_among(line, &NUMBERS, code)
+    found_among(line, NUMBERS, code)
 }
 
 fn found_in_statements(line: &Line<'_>, code: u16) -> Option<Found>
     ensures { IfSome result (λ f. IsWithin f.from f.to line.now.bytes.now) }
 {
-    found_among(line, &STATEMENTS, code)
+    found_among(line, STATEMENTS, code)
 }
 
 fn found_in_ways(line: &Line<'_>, code: u16) -> Option<Found>
     ensures { IfSome result (λ f. IsWithin f.from f.to line.now.bytes.now) }
 {
-    found_among(line, &WAYS, code)
+    found_among(line, WAYS, code)
 }
 
 fn found_in_attributes(line: &Line<'_>, code: u16) -> Option<Found>
     ensures { IfSome result (λ f. IsWithin f.from f.to line.now.bytes.now) }
 {
-    found_among(line, &ATTRIBUTES, code)
+    found_among(line, ATTRIBUTES, code)
 }
 
 fn found_in_signs(line: &Line<'_>, code: u16) -> Option<Found>
     ensures { IfSome result (λ f. IsWithin f.from f.to line.now.bytes.now) }
 {
-    found_among(line, &SIGNS, code)
+    found_among(line, SIGNS, code)
 }
 
 /// A kind of forms that are left out.

@@ -140,7 +140,7 @@ pub fn place_of_word(pieces: &[Piece<'_>]) -> usize {
 
 /// The token of a piece, if there is one at this place.
 pub fn token_at<'a>(pieces: &[Piece<'a>], place: usize) -> Option<Token<'a>> {
-    pieces.get(place).map(|piece| piece.token)
+    Some(pieces.get(place)?.token)
 }
 
 impl<'a> Line<'a> {

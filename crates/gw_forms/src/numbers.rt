@@ -3,7 +3,7 @@
 use crate::form::{Form, Test};
 
 /// Random numbers, functions and numbers that are no whole ones.
-pub(crate) const NUMBERS: [Form; 16] = [
+pub(crate) const NUMBERS: &[Form] = &[
     Form {
         name: "Exponential",
         codes: [75, 0, 0],

@@ -3,7 +3,7 @@
 use crate::form::{Form, Test};
 
 /// Signs, operands that are too many, and words.
-pub(crate) const SIGNS: [Form; 22] = [
+pub(crate) const SIGNS: &[Form] = &[
     Form {
         name: "`/` for a quotient",
         codes: [75, 0, 0],

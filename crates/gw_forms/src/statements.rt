@@ -3,7 +3,7 @@
 use crate::form::{Form, Test};
 
 /// Blocks and other statements.
-pub(crate) const STATEMENTS: [Form; 25] = [
+pub(crate) const STATEMENTS: &[Form] = &[
     Form {
         name: "PREEMPT and RETURN",
         codes: [75, 0, 0],

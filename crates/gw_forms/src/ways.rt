@@ -3,7 +3,7 @@
 use crate::form::{Form, Test};
 
 /// Ways, chains, gates and computed names.
-pub(crate) const WAYS: [Form; 13] = [
+pub(crate) const WAYS: &[Form] = &[
     Form {
         name: "TRANSFER ALL",
         codes: [75, 0, 0],
