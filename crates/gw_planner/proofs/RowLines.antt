@@ -8,7 +8,7 @@ use Rattle.gw_figures.specs.declared.run.Run.{Run}
 use Rattle.gw_rows.specs.Reading.{IsLine, IsReadable, IsWithoutFeed}
 use Rattle.gw_rows.specs.Rows.{Source, row, rows_from}
 use Rattle.gw_rows.proofs.RowLines.{line_of_row}
-use Rattle.gw_summary.proofs.Taking.{none_there, only}
+use Rattle.gw_summary.proofs.Taking.{itself, none_there, only}
 
 -- a line is the row of the run at a place, from a number on
 abbrev pub IsRowAtPlace : List Label → Source → ℕ → ℕ → Run → List ℕ → Type 0
@@ -28,9 +28,6 @@ pub record RowLines (labels : List Label) (s : Source) (number : ℕ) (runs : Li
 abbrev pub AreReadable : List Label → Source → ℕ → List Run → Type 0
 AreReadable labels s number runs =
     (place : ℕ) (run : Run) → slice_get runs place ≡ Some run → IsReadable labels s (number + place) run
-
-pub itself : (line : List ℕ) (rest : List (List ℕ)) → Contains (line ∷ rest) line
-itself line rest = (0, omega arith, refl)
 
 some_is : (run it : Run) → slice_get (run ∷ []) 0 ≡ Some it → run ≡ it
 some_is run it is = cc

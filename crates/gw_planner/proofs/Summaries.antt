@@ -36,9 +36,9 @@ use Rattle.gw_summary.specs.StudyTold.{IsAsked, IsStudyText}
 use Rattle.gw_summary.specs.Complete.{IsFirstOf}
 use Rattle.gw_summary.specs.declared.telling.SummaryRequest.{SummaryRequest}
 use Rattle.gw_summary.proofs.Splitting.{all_lines}
-use Rattle.gw_summary.proofs.Taking.{only}
+use Rattle.gw_summary.proofs.Taking.{itself, only}
 use Rattle.gw_planner.specs.Laws.{AreOfFirstStudy, HaveLinesOf, HaveShortLines, SummariesAreStudies, study_of}
-use Rattle.gw_planner.proofs.RowLines.{AreReadable, RowLines, itself, row_lines}
+use Rattle.gw_planner.proofs.RowLines.{AreReadable, RowLines, row_lines}
 
 -- RUNS OF WHICH THE SAME IS KEPT
 

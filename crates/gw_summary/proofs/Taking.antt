@@ -17,8 +17,8 @@ then_ok (Err e) f h = tt
 pub none_there : {A : Type 0} (line : List ℕ) → Contains [] line → A
 none_there line h = absurd (omega (arith, h.1))
 
-itself : (line : List ℕ) → Contains (line ∷ []) line
-itself line = (0, omega arith, refl)
+pub itself : (line : List ℕ) (rest : List (List ℕ)) → Contains (line ∷ rest) line
+itself line rest = (0, omega arith, refl)
 
 -- the one of one
 pub only : (line t : List ℕ) → Contains (line ∷ []) t → line ≡ t
@@ -70,7 +70,7 @@ takes_more line old new (before, after, is, now) refused =
     (λ t h. subst (λ ls. Contains ls t) (sym now) (one_stays before after line t (subst (λ ls. Contains ls t) is h)))
     (λ some. ap is_some refused ∙ some)
     (inr (inl (subst (λ ls. Contains ls line) (sym now)
-    (Contains-append_right before (line ∷ after) line (Contains-append_left (line ∷ []) after line (itself line))))))
+    (Contains-append_right before (line ∷ after) line (Contains-append_left (line ∷ []) after line (itself line []))))))
 
 -- where the lines are the same, and this one is taken
 takes_as_is : (line : List ℕ) (old new : Rows) → kept_lines new ≡ kept_lines old → (is_some old.refused ≡ true → is_some new.refused ≡ true) →

@@ -1,5 +1,5 @@
 -- With which statuses answers end.
-use Rattle.std.proofs.Common.{◌≡◌, ◌⊎◌, ℕ, List, [], ◌∷◌, Bool, true, false, Result, Ok, Err, MatchResult, inl, inr}
+use Rattle.std.proofs.Common.{◌≡◌, ℕ, List, [], ◌∷◌, Bool, true, false, Result, Ok, Err, MatchResult, inl, inr}
 use Rattle.std.proofs.Common.{◌+◌, take}
 use Rattle.std.specs.Prelude.{MatchBool}
 use Rattle.gw_object.specs.declared.limits.TheConstants.{MOST_BYTES}
@@ -9,12 +9,11 @@ use Rattle.gw_step.specs.Job.{Job}
 use Rattle.gw_answers.specs.Refusal.{refusal_line}
 use Rattle.gw_answers.specs.Status.{end_status, refusal_status}
 use Rattle.gw_answers.specs.Answer.{object_of, accepted_line}
-use Rattle.gw_answers.specs.Assembly.{IsAssembly}
 use Rattle.gw_answers.specs.declared.request.Request.TheVariants.{Run}
 use Rattle.gw_console.proofs.Outputs.{IsEnd, Ends, assembly_status, request_ends}
 use Rattle.gw_source_lines.specs.Sites.{no_sites, is_object}
-use Rattle.gw_explain.specs.Explanation.{Begins, IsAdvised, IsExplainedModel, IsExplainedText, IsExplainedObject}
-use Rattle.gw_listing.specs.Listing.{IsListingOf, TellsRefusal, IsListedModel, IsListedText, IsListedObject}
+use Rattle.gw_explain.specs.Explanation.{Begins, IsAdvised, IsExplainedModel, IsExplainedText}
+use Rattle.gw_listing.specs.Listing.{IsListingOf, TellsRefusal, IsListedModel, IsListedText}
 use Rattle.gw_model_jobs.specs.ModelJobs.{AnswersModel}
 use Rattle.gw_trace.specs.Trace.{IsTrace}
 use Rattle.gw_chart.specs.Charts.{IsChart, IsSheet}
@@ -32,8 +31,8 @@ use Rattle.gw_command_line.specs.declared.rows.Summing.{Summing}
 use Rattle.gw_summary.specs.Telling.{IsSummary, IsSummaryOf}
 use Rattle.gw_summary.specs.declared.rows.Rows.{Rows as RowsOfStudy}
 use Rattle.gw_summary.specs.declared.telling.SummaryRequest.{SummaryRequest}
-use Rattle.gw_planner.specs.Answers.{IsReported, question_answering, chart_answering, window_of, is_plain, request_of, words_of, studied_with}
-use Rattle.gw_planner.specs.Answers.{comparison_answering, study_answering, rows_asked, share_asked, object_asked}
+use Rattle.gw_planner.specs.Answers.{IsReported, question_answering, window_of, is_plain, request_of, words_of, studied_with}
+use Rattle.gw_planner.specs.Answers.{comparison_answering, rows_asked, share_asked, object_asked}
 use Rattle.planner.specs.Answers.{answering_of_input, charting_of_input, studying_of_input, of_front, summary_answering, summary_of}
 use Rattle.gw_command_line.specs.declared.words.Question.{Question}
 use Rattle.gw_command_line.specs.declared.words.Question.TheVariants.{Explain, List as Lists, Points, Convert, Trace, Report}

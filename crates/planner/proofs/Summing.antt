@@ -10,7 +10,7 @@ use Rattle.gw_console.specs.declared.fault.ProgramFault.{ProgramFault}
 use Rattle.gw_console.specs.declared.fault.ProgramFault.TheVariants as faults
 use Rattle.gw_console.specs.Output.{AnswersReader}
 use Rattle.gw_summary.specs.Keeping.{IsRead}
-use Rattle.gw_summary.specs.StudyRows.{StudyRuns, AreLinesIn, IsFrontIn, IsReadOf, IsReadableStudy, IsWant}
+use Rattle.gw_summary.specs.StudyRows.{StudyRuns, AreLinesIn, IsFrontIn, IsReadableStudy, IsWant}
 use Rattle.gw_summary.specs.StudyTold.{TellsStudies, TellsStudiesRead}
 use Rattle.gw_summary.specs.Telling.{IsSummaryOf}
 use Rattle.gw_summary.specs.declared.fault.NoRow.{NoRow}

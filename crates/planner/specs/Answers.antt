@@ -1,5 +1,5 @@
 -- What the program writes.
-use Rattle.std.specs.Prelude.{◌≡◌, ◌⊎◌, ℕ, ◌+◌, List, take, Option, Bool, true, false, MatchOption}
+use Rattle.std.specs.Prelude.{◌⊎◌, ℕ, ◌+◌, List, take, Option, Bool, true, false, MatchOption}
 use Rattle.gw_object.specs.declared.limits.TheConstants.{MOST_BYTES}
 use Rattle.gw_answers.specs.Status.{end_status, no_memory, wrong_words}
 use Rattle.gw_answers.specs.Requests.{Answering}
