@@ -5,7 +5,7 @@ use gw_object::{Memory, codes};
 use std::alloc::Global;
 
 /// How often an object was damaged, and how often that was answered as it has to be.
-#[derive(Clone, Copy, Debug, PartialEq, Eq)]
+#[derive(Clone, Copy, PartialEq, Eq)]
 pub struct Tally {
     /// How often.
     pub tried: u64,

@@ -15,7 +15,7 @@ use std::alloc::Global;
 const BUDGET: u64 = 10_000;
 
 /// What becomes of bytes that should be an object.
-#[derive(Clone, Copy, Debug, PartialEq, Eq)]
+#[derive(Clone, Copy, PartialEq, Eq)]
 pub enum Outcome {
     /// They are refused as they are read.
     Unreadable(Fault),

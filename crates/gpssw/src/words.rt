@@ -10,7 +10,7 @@ use gw_answers::Request;
 use gw_num::{count_in, number_in};
 
 /// A command of the program.
-#[derive(Clone, Copy, Debug, PartialEq, Eq)]
+#[derive(Clone, Copy, PartialEq, Eq)]
 pub enum Command {
     /// Reads one input, a model text or an object, and writes what answers a request: `asm`, `check` or `run`.
     Single(Request),

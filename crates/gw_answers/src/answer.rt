@@ -28,7 +28,7 @@ use std::alloc::Global;
 pub const BUDGET: u64 = 1_000_000_000;
 
 /// A text to write, and the status to end with.
-#[derive(Debug, Drop)]
+#[derive(Drop)]
 pub struct Answer {
     pub text: Vec<u8>,
     pub status: u8,
@@ -96,7 +96,7 @@ pub fn answer_refusal(alloc: Global, refusal: Refusal) -> Result<Answer, Memory>
 }
 
 /// Why an object has no job.
-#[derive(Debug, Drop)]
+#[derive(Drop)]
 pub enum NoJob {
     /// Something was refused.
     Refused(Refusal),

@@ -10,7 +10,7 @@ use gw_scan::StartFault;
 use std::fmt;
 
 /// A refusal, which prints as `refused CODE NAME at PLACE`, without a place where it has none (docs/refusals.md).
-#[derive(Clone, Copy, Debug, PartialEq, Eq)]
+#[derive(Clone, Copy, PartialEq, Eq)]
 pub struct Refusal(pub Fault);
 
 /// The numbers of a place, which print with a blank between them.

@@ -1,7 +1,7 @@
 //! What may be asked of one input.
 
 /// What may be asked of one input: of a model text or of an object.
-#[derive(Clone, Copy, Debug, PartialEq, Eq)]
+#[derive(Clone, Copy, PartialEq, Eq)]
 pub enum Request {
     /// What object a model text becomes.
     Asm,

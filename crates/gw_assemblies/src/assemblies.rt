@@ -12,7 +12,7 @@ use std::marker::Model;
 
 /// An assembly that has begun: its first transaction waits at the block for the rest of its set (GPSS World Reference
 /// Manual, chapter 7, ASSEMBLE).
-#[derive(Clone, Copy, Debug, PartialEq, Eq)]
+#[derive(Clone, Copy, PartialEq, Eq)]
 pub struct Assembly {
     /// The block at which it waits, by its number from 1.
     pub block: u16,
@@ -29,7 +29,7 @@ pub struct Assembly {
 ///
 /// One is found by its block and set in a bucket of those that share it, few of all. One that is finished is struck out,
 /// and swept away with others when there are as many entries as twice the assemblies that there is room for.
-#[derive(Debug, Drop)]
+#[derive(Drop)]
 pub struct Assemblies {
     // In the order in which they were begun, with those that are struck out.
     entries: Vec<Entry>,

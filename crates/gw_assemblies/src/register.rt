@@ -11,7 +11,7 @@ use crate::Assembly;
 use gw_members::Memory;
 
 /// An entry of the register.
-#[derive(Clone, Copy, Debug)]
+#[derive(Clone, Copy)]
 pub struct Entry {
     /// The assembly.
     pub assembly: Assembly,
@@ -22,7 +22,7 @@ pub struct Entry {
 }
 
 /// What an assembly is found by.
-#[derive(Clone, Copy, Debug)]
+#[derive(Clone, Copy)]
 pub struct Key {
     /// The block at which it waits.
     pub block: u16,

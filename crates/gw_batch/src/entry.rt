@@ -9,7 +9,7 @@ pub const MOST_OBJECTS: u32 = 1024;
 pub const LENGTH_BYTES: usize = 4;
 
 /// What stands in a batch.
-#[derive(Debug, Drop)]
+#[derive(Drop)]
 pub enum Entry {
     /// The bytes of an object.
     Object(Vec<u8>),

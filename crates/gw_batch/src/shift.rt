@@ -1,7 +1,7 @@
 //! How the workers of a batch are to work.
 
 /// How the workers of a batch are to work, and whether they are watched.
-#[derive(Clone, Copy, Debug, PartialEq, Eq)]
+#[derive(Clone, Copy, PartialEq, Eq)]
 pub struct Shift {
     /// How many workers there are.
     pub workers: u32,

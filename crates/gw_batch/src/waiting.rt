@@ -13,7 +13,7 @@ use std::collections::VecDeque;
 use std::marker::Model;
 
 /// The line of a refusal, which is made beforehand, so that no memory is wanted where it is told. Contracts see it as its fault.
-#[derive(Debug, Drop)]
+#[derive(Drop)]
 pub(crate) struct Line {
     fault: Fault,
     text: Vec<u8>,
@@ -53,7 +53,7 @@ impl Line {
 }
 
 /// An entry that waits to be told.
-#[derive(Debug, Drop)]
+#[derive(Drop)]
 pub(crate) enum Waiting {
     /// The bytes of an object.
     Object(Vec<u8>),

@@ -7,7 +7,7 @@ ghost use Rattle.gw_blocks.specs.Grammar.{block_word as word_of_block};
 use gw_fields::Keyed;
 
 /// A system numerical attribute of the clock, the termination count or the active transaction.
-#[derive(Clone, Copy, Debug, PartialEq, Eq)]
+#[derive(Clone, Copy, PartialEq, Eq)]
 pub enum Attribute {
     /// C1: the clock, in clock units.
     Clock,
@@ -24,7 +24,7 @@ pub enum Attribute {
 }
 
 /// A system numerical attribute of an entity or a block.
-#[derive(Clone, Copy, Debug, PartialEq, Eq)]
+#[derive(Clone, Copy, PartialEq, Eq)]
 pub enum EntityAttribute {
     /// F: 1 where the facility is owned, else 0.
     FacilityOwned,
@@ -53,7 +53,7 @@ pub enum EntityAttribute {
 }
 
 /// A system numerical attribute of one entity, by its number from 0, or of one block, by its number from 1.
-#[derive(Clone, Copy, Debug, PartialEq, Eq)]
+#[derive(Clone, Copy, PartialEq, Eq)]
 pub struct Numbered {
     /// Which attribute.
     pub attribute: EntityAttribute,
@@ -62,7 +62,7 @@ pub struct Numbered {
 }
 
 /// An operand of a block.
-#[derive(Clone, Copy, Debug, PartialEq, Eq)]
+#[derive(Clone, Copy, PartialEq, Eq)]
 pub enum Operand {
     /// A number that stands in the object.
     Constant(i64),
@@ -80,7 +80,7 @@ pub enum Operand {
 }
 
 /// A random time in clock units: the mean, and how far it may lie to either side (half the range).
-#[derive(Clone, Copy, Debug, PartialEq, Eq)]
+#[derive(Clone, Copy, PartialEq, Eq)]
 pub struct Spread {
     /// The mean, in clock units.
     pub mean: Operand,
@@ -89,7 +89,7 @@ pub struct Spread {
 }
 
 /// The operands of a GENERATE block.
-#[derive(Clone, Copy, Debug, PartialEq, Eq)]
+#[derive(Clone, Copy, PartialEq, Eq)]
 pub struct Generate {
     /// The time between two arrivals.
     pub interval: Spread,
@@ -102,7 +102,7 @@ pub struct Generate {
 }
 
 /// Units of an entity: of a storage or a queue.
-#[derive(Clone, Copy, Debug, PartialEq, Eq)]
+#[derive(Clone, Copy, PartialEq, Eq)]
 pub struct Units {
     /// The entity's number, from 0.
     pub entity: u16,
@@ -119,7 +119,7 @@ impl Keyed for Units {
 }
 
 /// The operands of a TRANSFER block in fractional mode.
-#[derive(Clone, Copy, Debug, PartialEq, Eq)]
+#[derive(Clone, Copy, PartialEq, Eq)]
 pub struct Fraction {
     /// How many of a thousand transactions go to the target.
     pub thousandths: u16,
@@ -130,7 +130,7 @@ pub struct Fraction {
 }
 
 /// The operands of a TRANSFER block in both mode.
-#[derive(Clone, Copy, Debug, PartialEq, Eq)]
+#[derive(Clone, Copy, PartialEq, Eq)]
 pub struct Both {
     /// The number of the block that is tried first, from 1; without it the next block.
     pub first: Option<u16>,
@@ -139,7 +139,7 @@ pub struct Both {
 }
 
 /// How a value is put where another one is.
-#[derive(Clone, Copy, Debug, PartialEq, Eq)]
+#[derive(Clone, Copy, PartialEq, Eq)]
 pub enum Mode {
     /// It takes its place.
     Set,
@@ -150,7 +150,7 @@ pub enum Mode {
 }
 
 /// The operands of an ASSIGN block.
-#[derive(Clone, Copy, Debug, PartialEq, Eq)]
+#[derive(Clone, Copy, PartialEq, Eq)]
 pub struct Assign {
     /// The parameter's number, from 1 to 64.
     pub parameter: u8,
@@ -161,7 +161,7 @@ pub struct Assign {
 }
 
 /// How two values are compared.
-#[derive(Clone, Copy, Debug, PartialEq, Eq)]
+#[derive(Clone, Copy, PartialEq, Eq)]
 pub enum Comparison {
     /// E: they are equal.
     Equal,
@@ -178,7 +178,7 @@ pub enum Comparison {
 }
 
 /// The operands of a TEST block.
-#[derive(Clone, Copy, Debug, PartialEq, Eq)]
+#[derive(Clone, Copy, PartialEq, Eq)]
 pub struct Test {
     /// How the values are compared.
     pub comparison: Comparison,
@@ -191,7 +191,7 @@ pub struct Test {
 }
 
 /// What a GATE block asks of its entity.
-#[derive(Clone, Copy, Debug, PartialEq, Eq)]
+#[derive(Clone, Copy, PartialEq, Eq)]
 pub enum Condition {
     /// LS: the logic switch is set.
     SwitchSet,
@@ -212,7 +212,7 @@ pub enum Condition {
 }
 
 /// The operands of a GATE block.
-#[derive(Clone, Copy, Debug, PartialEq, Eq)]
+#[derive(Clone, Copy, PartialEq, Eq)]
 pub struct Gate {
     /// What it asks.
     pub condition: Condition,
@@ -223,7 +223,7 @@ pub struct Gate {
 }
 
 /// The operands of a TRANSFER block in subroutine mode.
-#[derive(Clone, Copy, Debug, PartialEq, Eq)]
+#[derive(Clone, Copy, PartialEq, Eq)]
 pub struct Call {
     /// The number of the block at which the subroutine begins, from 1.
     pub target: u16,
@@ -232,7 +232,7 @@ pub struct Call {
 }
 
 /// The operands of a LOOP block.
-#[derive(Clone, Copy, Debug, PartialEq, Eq)]
+#[derive(Clone, Copy, PartialEq, Eq)]
 pub struct Loop {
     /// The number of the parameter that counts down, from 1 to 64.
     pub parameter: u8,
@@ -241,7 +241,7 @@ pub struct Loop {
 }
 
 /// The operands of a SPLIT block.
-#[derive(Clone, Copy, Debug, PartialEq, Eq)]
+#[derive(Clone, Copy, PartialEq, Eq)]
 pub struct Split {
     /// How many copies of the transaction are made.
     pub copies: u16,
@@ -250,7 +250,7 @@ pub struct Split {
 }
 
 /// What a LOGIC block does with a logic switch.
-#[derive(Clone, Copy, Debug, PartialEq, Eq)]
+#[derive(Clone, Copy, PartialEq, Eq)]
 pub enum SwitchAction {
     /// It is set.
     Set,
@@ -261,7 +261,7 @@ pub enum SwitchAction {
 }
 
 /// The operands of a LOGIC block.
-#[derive(Clone, Copy, Debug, PartialEq, Eq)]
+#[derive(Clone, Copy, PartialEq, Eq)]
 pub struct Logic {
     /// What happens to the switch.
     pub action: SwitchAction,
@@ -270,7 +270,7 @@ pub struct Logic {
 }
 
 /// The operands of a SAVEVALUE block.
-#[derive(Clone, Copy, Debug, PartialEq, Eq)]
+#[derive(Clone, Copy, PartialEq, Eq)]
 pub struct Save {
     /// The savevalue's entity's number, from 0.
     pub savevalue: u16,
@@ -281,7 +281,7 @@ pub struct Save {
 }
 
 /// At which end of a user chain a LINK puts transactions; UNLINK takes them from the front.
-#[derive(Clone, Copy, Debug, PartialEq, Eq)]
+#[derive(Clone, Copy, PartialEq, Eq)]
 pub enum LinkOrder {
     /// At the back: first in, first out.
     Fifo,
@@ -290,7 +290,7 @@ pub enum LinkOrder {
 }
 
 /// The operands of a LINK block.
-#[derive(Clone, Copy, Debug, PartialEq, Eq)]
+#[derive(Clone, Copy, PartialEq, Eq)]
 pub struct Link {
     /// The number of the user chain's entity, from 0.
     pub chain: u16,
@@ -299,7 +299,7 @@ pub struct Link {
 }
 
 /// The operands of an UNLINK block.
-#[derive(Clone, Copy, Debug, PartialEq, Eq)]
+#[derive(Clone, Copy, PartialEq, Eq)]
 pub struct Unlink {
     /// The number of the user chain's entity, from 0.
     pub chain: u16,
@@ -310,7 +310,7 @@ pub struct Unlink {
 }
 
 /// The operands of a PRIORITY block.
-#[derive(Clone, Copy, Debug, PartialEq, Eq)]
+#[derive(Clone, Copy, PartialEq, Eq)]
 pub struct Priority {
     /// The new priority.
     pub value: Operand,
@@ -319,7 +319,7 @@ pub struct Priority {
 }
 
 /// The operands of a PLUS block.
-#[derive(Clone, Copy, Debug, PartialEq, Eq)]
+#[derive(Clone, Copy, PartialEq, Eq)]
 pub struct Plus {
     /// What is evaluated.
     pub value: Operand,
@@ -328,7 +328,7 @@ pub struct Plus {
 }
 
 /// A block.
-#[derive(Clone, Copy, Debug, PartialEq, Eq)]
+#[derive(Clone, Copy, PartialEq, Eq)]
 pub enum Block {
     /// Transactions enter the model here.
     Generate(Generate),

@@ -10,7 +10,7 @@ use gw_scan::{Sim, Spec, StartFault, Status};
 use std::alloc::{AllocError, Global};
 
 /// How a job is made of a case's object.
-#[derive(Clone, Copy, Debug, PartialEq, Eq)]
+#[derive(Clone, Copy, PartialEq, Eq)]
 pub struct Making {
     /// The one seed; 0 means the object's own seeds.
     pub seed: u32,

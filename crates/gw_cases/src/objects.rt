@@ -15,7 +15,7 @@ use gw_verify::{check_first, verify};
 use std::alloc::Global;
 
 /// What the source of a case is.
-#[derive(Clone, Copy, Debug, PartialEq, Eq)]
+#[derive(Clone, Copy, PartialEq, Eq)]
 pub enum Kind {
     /// A model text.
     Text,

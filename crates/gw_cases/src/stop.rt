@@ -4,7 +4,7 @@ use gw_object::{Fault, codes};
 use std::alloc::{AllocError, AllocFailed};
 
 /// Why an act comes to nothing.
-#[derive(Clone, Copy, Debug, PartialEq, Eq)]
+#[derive(Clone, Copy, PartialEq, Eq)]
 pub enum Stop {
     /// Something was refused.
     Refused(Fault),

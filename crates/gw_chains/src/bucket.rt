@@ -31,7 +31,7 @@ impl Ranked for Member {
 }
 
 /// A bucket: all of one rank.
-#[derive(Clone, Copy, Debug)]
+#[derive(Clone, Copy)]
 pub struct Bucket {
     /// Their rank.
     pub rank: i64,
@@ -44,7 +44,7 @@ pub struct Bucket {
 }
 
 /// The link of a member in its bucket.
-#[derive(Clone, Copy, Debug)]
+#[derive(Clone, Copy)]
 pub struct Link<T> {
     /// The member.
     pub member: T,

@@ -24,7 +24,7 @@ use std::marker::Model;
 /// One that comes to an empty chain stands apart, and is the first until it leaves or another goes ahead of it. The others
 /// are kept in buckets, one for each priority that occurs, whose members are linked to one another: so a newcomer among tens
 /// of thousands moves nobody, or the buckets of the priorities on one side of its own where that is new.
-#[derive(Debug, Drop)]
+#[derive(Drop)]
 pub struct Cec {
     // The first, where it stands apart.
     head: Option<Member>,

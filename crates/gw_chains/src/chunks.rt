@@ -17,7 +17,7 @@ use std::collections::VecDeque;
 pub(crate) const MOST_IN_CHUNK: usize = 128;
 
 /// Where an element stands: in which chunk, and at which place of it, both from 0.
-#[derive(Clone, Copy, Debug)]
+#[derive(Clone, Copy)]
 pub(crate) struct Position {
     pub(crate) chunk: usize,
     pub(crate) place: usize,

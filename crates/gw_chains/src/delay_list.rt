@@ -20,7 +20,7 @@ use std::marker::Model;
 ///
 /// It is kept in buckets, one for each priority that occurs, whose members are linked to one another: so nobody moves, whoever
 /// joins or leaves, but the buckets on one side of one that is new or gone. A member takes a link and no more.
-#[derive(Debug, Drop)]
+#[derive(Drop)]
 pub struct DelayList {
     buckets: VecDeque<Bucket>,
     links: Slab<Link<Member>>,

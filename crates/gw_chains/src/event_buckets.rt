@@ -25,7 +25,7 @@ use std::marker::Model;
 
 /// Future events in buckets, one for each time that occurs, whose events are linked to one another: so a newcomer among tens of
 /// thousands moves nobody, or few buckets where its time is new.
-#[derive(Debug, Drop)]
+#[derive(Drop)]
 pub struct EventBuckets {
     // The buckets, in chunks.
     chunks: VecDeque<VecDeque<Bucket>>,

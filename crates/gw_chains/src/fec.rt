@@ -23,7 +23,7 @@ const MOST_FEW: usize = 64;
 ///
 /// Few events stand in a vector by their times, in which a newcomer goes past those that come no later. Where they come to
 /// be more, all of them go to buckets, and newcomers go there as long as there is any in them.
-#[derive(Debug, Drop)]
+#[derive(Drop)]
 pub struct Fec {
     // All events while they are few, the first to come last.
     few: Vec<Event>,

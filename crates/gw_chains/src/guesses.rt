@@ -7,7 +7,7 @@ use std::alloc::Global;
 const GUESSES: usize = 4096;
 
 /// A position, in few bytes.
-#[derive(Clone, Copy, Debug)]
+#[derive(Clone, Copy)]
 pub struct Guess {
     /// The number of the chunk among all that there ever were, by its lowest bits.
     pub chunk: u16,
@@ -17,7 +17,7 @@ pub struct Guess {
 
 /// Where the buckets of some ranks stood of late, and where chunks begin. It is a guess: others may have come or gone since, so
 /// whoever asks for it looks whether it is right, and no contract speaks of it.
-#[derive(Debug, Drop)]
+#[derive(Drop)]
 pub struct Guesses {
     // One for each rank, by its lowest bits; none until there was memory for them.
     kept: Vec<Guess>,

@@ -10,7 +10,7 @@ use slab::Slab;
 use std::collections::VecDeque;
 
 /// Where a member stands: in which bucket of a row, and behind which of it. Or the end of a bucket, or of all of them.
-#[derive(Clone, Copy, Debug)]
+#[derive(Clone, Copy)]
 pub struct Spot {
     /// The number of its bucket, from 0.
     pub bucket: usize,

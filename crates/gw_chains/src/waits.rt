@@ -23,7 +23,7 @@ use std::marker::Model;
 /// A walk goes over one delay list, member by member, and can take members out as it goes:
 /// `start_walk`, then `current` with `pass` or `take` for each. It may end anywhere. A call other
 /// than these four for the same entity may move it to another place.
-#[derive(Debug, Drop)]
+#[derive(Drop)]
 pub struct Waits {
     delay_lists: Vec<DelayList>,
     retry: VecDeque<Member>,

@@ -11,7 +11,7 @@ use slab::Slab;
 use std::collections::VecDeque;
 
 /// A walk over the members of buckets in a row: it is at one of them, or at the end of all.
-#[derive(Clone, Copy, Debug)]
+#[derive(Clone, Copy)]
 pub struct Walk {
     /// Where it is.
     pub spot: Spot,

@@ -10,7 +10,7 @@ use gw_drawing::text::{put, put_escaped, put_signed, put_tenths, put_text_at};
 use gw_object::{Kind, Memory};
 
 /// What is drawn of an entity.
-#[derive(Clone, Copy, Debug, PartialEq, Eq)]
+#[derive(Clone, Copy, PartialEq, Eq)]
 pub enum Plot {
     /// Whether a facility is owned.
     Owned,

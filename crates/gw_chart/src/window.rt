@@ -7,7 +7,7 @@ use gw_drawing::numbers::part_of_length;
 use gw_model_jobs::Time;
 
 /// From which clock to which a run is shown, both in clock units; of a run that ends before, up to its end.
-#[derive(Clone, Copy, Debug, PartialEq, Eq)]
+#[derive(Clone, Copy, PartialEq, Eq)]
 pub struct Window {
     /// The first clock.
     pub from: u64,

@@ -7,7 +7,7 @@ use gw_fields::Items;
 use gw_num::{Binary, Unary};
 
 /// A system numerical attribute that code reads.
-#[derive(Clone, Copy, Debug, PartialEq, Eq)]
+#[derive(Clone, Copy, PartialEq, Eq)]
 pub enum Sna {
     /// The value of a parameter, by its number from 1 to 64.
     Parameter(u8),
@@ -18,7 +18,7 @@ pub enum Sna {
 }
 
 /// A jump back, which a procedure takes only so often.
-#[derive(Clone, Copy, Debug, PartialEq, Eq)]
+#[derive(Clone, Copy, PartialEq, Eq)]
 pub struct Back {
     /// Where it leads: the number of an instruction of the procedure, from 0.
     pub target: u16,
@@ -28,7 +28,7 @@ pub struct Back {
 
 /// An instruction of PLUS code. It works on a stack of values, and on the locals of its procedure. Instructions and
 /// locals have numbers from 0.
-#[derive(Clone, Copy, Debug, PartialEq, Eq)]
+#[derive(Clone, Copy, PartialEq, Eq)]
 pub enum Instruction {
     /// PUSH: this number comes onto the stack.
     Push(i64),
@@ -58,7 +58,7 @@ pub enum Instruction {
 }
 
 /// A procedure: PLUS code with a value. (Ours: docs/plus-code.md.)
-#[derive(Debug, Drop, PartialEq, Eq)]
+#[derive(Drop, PartialEq, Eq)]
 pub struct Procedure {
     /// How many arguments it takes: they are its first locals.
     pub arguments: u8,

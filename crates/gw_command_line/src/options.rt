@@ -9,7 +9,7 @@ ghost use Rattle.gw_command_line.specs.Options as model;
 use gw_num::{count_in, number_in};
 
 /// Which option waits for its word.
-#[derive(Clone, Copy, Debug, PartialEq, Eq)]
+#[derive(Clone, Copy, PartialEq, Eq)]
 pub enum Waiting {
     /// None does.
     Nothing,

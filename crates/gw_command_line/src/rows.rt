@@ -37,7 +37,7 @@ pub struct LoneRun<'a> {
 }
 
 /// Which share of an experiment is asked for.
-#[derive(Clone, Copy, Debug, PartialEq, Eq)]
+#[derive(Clone, Copy, PartialEq, Eq)]
 pub struct Shard {
     /// Its number, from 0.
     pub number: u32,
@@ -48,7 +48,7 @@ pub struct Shard {
 }
 
 /// What a summary is asked for.
-#[derive(Clone, Copy, Debug, PartialEq, Eq)]
+#[derive(Clone, Copy, PartialEq, Eq)]
 pub struct Summing {
     /// Of which study of so many runs the rows have to be, from 1.
     pub seeds: u32,

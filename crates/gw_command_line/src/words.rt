@@ -19,7 +19,7 @@ pub const MOST_RUNS: u32 = 512;
 pub const MOST_WORKERS: u32 = 16;
 
 /// What is asked of a model and its one run.
-#[derive(Clone, Copy, Debug, PartialEq, Eq)]
+#[derive(Clone, Copy, PartialEq, Eq)]
 pub enum Question {
     /// What is wrong with it, where, and how to mend it; or what is in it.
     Explain,
@@ -46,7 +46,7 @@ pub enum Question {
 }
 
 /// From which clock to which a run is shown, both in clock units.
-#[derive(Clone, Copy, Debug, PartialEq, Eq)]
+#[derive(Clone, Copy, PartialEq, Eq)]
 pub struct Span {
     /// The first clock.
     pub from: u64,

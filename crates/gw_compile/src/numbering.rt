@@ -7,7 +7,7 @@ use gw_blocks::{Numbered, Operand};
 use gw_rules::EntityKind;
 
 /// What the name of an EQU stands for.
-#[derive(Clone, Copy, Debug, PartialEq, Eq)]
+#[derive(Clone, Copy, PartialEq, Eq)]
 pub enum Equ {
     /// A number.
     Number(i64),
@@ -16,7 +16,7 @@ pub enum Equ {
 }
 
 /// A PROCEDURE that may be called.
-#[derive(Clone, Copy, Debug, PartialEq, Eq)]
+#[derive(Clone, Copy, PartialEq, Eq)]
 pub struct Callee {
     /// The number of its procedure, from 0.
     pub number: u16,

@@ -5,7 +5,7 @@ use gw_forms::line::Piece;
 use std::alloc::{AllocError, Global};
 
 /// What is written in place of bytes of a line.
-#[derive(Clone, Copy, Debug)]
+#[derive(Clone, Copy)]
 pub(crate) enum Replacement {
     /// These words.
     Words(&'static [u8]),
@@ -18,7 +18,7 @@ pub(crate) enum Replacement {
 }
 
 /// A change of a line: bytes of it, and what is written in their place.
-#[derive(Clone, Copy, Debug)]
+#[derive(Clone, Copy)]
 pub(crate) struct Change {
     /// The place of the first byte, from 0.
     pub(crate) from: usize,

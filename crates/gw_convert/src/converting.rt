@@ -58,7 +58,7 @@ struct Known {
 const MOST_REFUSED: usize = 1000;
 
 /// What becomes of a FUNCTION of the text.
-#[derive(Clone, Copy, Debug, PartialEq, Eq)]
+#[derive(Clone, Copy, PartialEq, Eq)]
 enum Fate {
     /// It stays.
     Kept,

@@ -9,7 +9,7 @@ use crate::writing::{put, put_name, put_number};
 use std::alloc::{AllocError, Global};
 
 /// A step of a function: up to which share of all draws it goes, and its value, both in millionths.
-#[derive(Clone, Copy, Debug)]
+#[derive(Clone, Copy)]
 pub(crate) struct Step {
     below: i64,
     value: i128,

@@ -6,7 +6,7 @@ use gw_text_tokens::is_spelled;
 use gw_text_tokens::tokens::Token;
 
 /// What a time is drawn by.
-#[derive(Clone, Copy, Debug, PartialEq, Eq)]
+#[derive(Clone, Copy, PartialEq, Eq)]
 pub(crate) enum Shape {
     /// An exponential distribution: from its least on, by its mean above it.
     Exponential,
@@ -19,7 +19,7 @@ pub(crate) enum Shape {
 }
 
 /// A time that is drawn.
-#[derive(Clone, Copy, Debug, PartialEq, Eq)]
+#[derive(Clone, Copy, PartialEq, Eq)]
 pub(crate) struct Draw {
     /// By what.
     pub(crate) shape: Shape,

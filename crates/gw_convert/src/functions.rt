@@ -10,7 +10,7 @@ use gw_text_tokens::tokens::{Token, value_of};
 use std::alloc::{AllocError, Global};
 
 /// A point of a FUNCTION, in millionths.
-#[derive(Clone, Copy, Debug)]
+#[derive(Clone, Copy)]
 pub(crate) struct Point {
     pub(crate) x: i64,
     pub(crate) y: i64,

@@ -11,7 +11,7 @@ use std::alloc::{AllocError, Global};
 const MOST_TOLD: usize = 20;
 
 /// A refusal of the text that was written.
-#[derive(Clone, Copy, Debug)]
+#[derive(Clone, Copy)]
 pub struct Told {
     /// The refusal.
     pub fault: Fault,

@@ -8,7 +8,7 @@ use gw_text_tokens::tokens::Token;
 const GREATEST: u64 = 1_000_000_000;
 
 /// A number of a text, at least 0.
-#[derive(Clone, Copy, Debug, PartialEq, Eq)]
+#[derive(Clone, Copy, PartialEq, Eq)]
 pub(crate) struct Number {
     /// The number, in millionths.
     pub(crate) millionths: u64,

@@ -6,7 +6,7 @@ use gw_text_tokens::is_spelled;
 use gw_text_tokens::tokens::Token;
 
 /// What a statement is, as far as converting tells them apart.
-#[derive(Clone, Copy, Debug, PartialEq, Eq)]
+#[derive(Clone, Copy, PartialEq, Eq)]
 pub(crate) enum Kind {
     Generate,
     Advance,

@@ -14,7 +14,7 @@ use gw_text_tokens::is_spelled;
 use gw_text_tokens::tokens::Token;
 
 /// What stands in the place of a time.
-#[derive(Clone, Copy, Debug, PartialEq, Eq)]
+#[derive(Clone, Copy, PartialEq, Eq)]
 pub(crate) enum Time {
     /// Nothing.
     Absent,

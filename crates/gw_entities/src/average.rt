@@ -4,7 +4,7 @@ ghost use Rattle.std.specs.Prelude.{◌≡◌, ◌*◌, ◌^◌, ◌≤◌, ℕ}
 ghost use Rattle.gw_entities.specs.Average as model;
 
 /// An average over time, cut to thousandths, as the report prints it (ours: docs/report.md).
-#[derive(Clone, Copy, Debug, PartialEq, Eq)]
+#[derive(Clone, Copy, PartialEq, Eq)]
 pub struct Average {
     /// The whole part.
     pub whole: u64,

@@ -36,7 +36,7 @@ fn initial_values<T: Initial>(alloc: Global, entities: &[Entity]) -> Result<Vec<
 /// kinds have a value too, of which nobody speaks.
 ///
 /// Contracts see a table with an entry at the number of each entity.
-#[derive(Debug, Drop)]
+#[derive(Drop)]
 pub struct ByEntity<T: Initial> {
     values: Vec<T>,
 }

@@ -5,7 +5,7 @@ ghost use Rattle.gw_entities.specs.Contents as model;
 ghost use Rattle.gw_entities.specs.Fits.{ContentsFit, FitsLater, StaysFit, FitsWithMore};
 
 /// What is inside a storage or a queue, in units, and what the report says of it.
-#[derive(Clone, Copy, Debug, PartialEq, Eq)]
+#[derive(Clone, Copy, PartialEq, Eq)]
 pub struct Contents {
     /// The units inside.
     pub content: u64,

@@ -14,7 +14,7 @@ use crate::numbered::{Numbered, Timed};
 use gw_object::Kind;
 
 /// A facility: at most one transaction owns it (GPSS World Reference Manual, "SEIZE" and "RELEASE").
-#[derive(Clone, Copy, Debug, PartialEq, Eq)]
+#[derive(Clone, Copy, PartialEq, Eq)]
 pub struct Facility {
     /// The number of the transaction that owns it, from 1, if one does.
     pub owner: Option<u64>,

@@ -42,7 +42,7 @@ pub trait Timed: Copy {
 }
 
 /// The value of an entity as it was when it last changed.
-#[derive(Clone, Copy, Debug)]
+#[derive(Clone, Copy)]
 pub(crate) struct Kept<T: Timed> {
     /// The value at that time.
     pub value: T,
@@ -70,7 +70,7 @@ impl<T: Timed> Kept<T> {
 ///
 /// Contracts see a table with a value at the number of each entity, and the clock units that passed so far. Time that
 /// passes is only counted: a value is brought up to date when it is read or changed.
-#[derive(Debug, Drop)]
+#[derive(Drop)]
 pub struct Numbered<T: Timed> {
     kept: Vec<Kept<T>>,
     passed: u64,

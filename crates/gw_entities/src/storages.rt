@@ -15,7 +15,7 @@ use crate::numbered::{Numbered, Timed};
 use gw_object::Kind;
 
 /// A storage: at most so many units are inside (GPSS World Reference Manual, "ENTER" and "LEAVE").
-#[derive(Clone, Copy, Debug, PartialEq, Eq)]
+#[derive(Clone, Copy, PartialEq, Eq)]
 pub struct Storage {
     /// The most units that may be inside at one moment.
     pub capacity: u32,

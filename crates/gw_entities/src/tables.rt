@@ -37,7 +37,7 @@ fn widths_to(far: u64, width: u32) -> u64
 /// What was entered into a table so far (GPSS World Reference Manual, "TABULATE").
 ///
 /// Contracts see the upper limit of the first class and the width of the others too.
-#[derive(Debug, Drop)]
+#[derive(Drop)]
 pub struct Tabulation {
     limit: i64,
     width: u32,
@@ -163,7 +163,7 @@ fn tables_of(alloc: Global, entities: &[Entity]) -> Result<Vec<Tabulation>, Memo
 /// The tables of a job, each by its number as an entity of the object.
 ///
 /// Contracts see a table with an entry at the number of each entity.
-#[derive(Debug, Drop)]
+#[derive(Drop)]
 pub struct Tables {
     tables: Vec<Tabulation>,
 }

@@ -11,7 +11,7 @@ use gw_text_tokens::lines::lines_of;
 use std::alloc::Global;
 
 /// What comment lines of a model ask for.
-#[derive(Debug, Drop)]
+#[derive(Drop)]
 pub struct Experiment {
     /// The words as `NURSES=2,3`, at most two.
     pub parameters: Vec<Vec<u8>>,

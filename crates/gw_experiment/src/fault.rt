@@ -11,7 +11,7 @@ use std::alloc::Global;
 pub const EXPERIMENT: u16 = 85;
 
 /// Why a line is refused.
-#[derive(Clone, Copy, Debug, PartialEq, Eq)]
+#[derive(Clone, Copy, PartialEq, Eq)]
 pub enum ExperimentFault {
     /// Behind `*!` stands none of `vary`, `runs`, `count` and `from`.
     Word,
@@ -30,7 +30,7 @@ pub enum ExperimentFault {
 }
 
 /// Why there is no experiment.
-#[derive(Debug, Drop)]
+#[derive(Drop)]
 pub enum NoExperiment {
     /// A line is refused; this is the refusal as it is printed.
     Refused(Vec<u8>),

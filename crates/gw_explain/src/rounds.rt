@@ -16,7 +16,7 @@ use std::alloc::Global;
 const MOST_TOLD: usize = 10;
 
 /// What is explained.
-#[derive(Clone, Copy, Debug, PartialEq, Eq)]
+#[derive(Clone, Copy, PartialEq, Eq)]
 pub(crate) enum Origin {
     /// A model text.
     Model,

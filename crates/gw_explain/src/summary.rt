@@ -9,7 +9,7 @@ use gw_text::Model;
 use std::alloc::Global;
 
 /// A kind of entities.
-#[derive(Clone, Copy, Debug, PartialEq, Eq)]
+#[derive(Clone, Copy, PartialEq, Eq)]
 enum Group {
     Facilities,
     Storages,

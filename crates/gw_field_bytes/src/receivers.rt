@@ -31,7 +31,7 @@ impl Receiver for Vec<u8> {
 }
 
 /// A room for bytes, of which only the number is kept: how many more it takes; `None` once it took too many.
-#[derive(Clone, Copy, Debug, PartialEq, Eq)]
+#[derive(Clone, Copy, PartialEq, Eq)]
 pub struct Room {
     pub left: Option<usize>,
 }

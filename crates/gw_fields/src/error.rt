@@ -7,14 +7,14 @@ ghost use Rattle.gw_fields.specs.declared.error.ReadError.TheVariants.{OutOfMemo
 use std::alloc::{AllocError, AllocFailed};
 
 /// A fault of the bytes: its code, and how many bytes are left from the first byte of its field on.
-#[derive(Clone, Copy, Debug, PartialEq, Eq)]
+#[derive(Clone, Copy, PartialEq, Eq)]
 pub struct Bad {
     pub code: u16,
     pub left: usize,
 }
 
 /// Why a reader answers no value.
-#[derive(Debug, Drop)]
+#[derive(Drop)]
 pub enum ReadError {
     OutOfMemory,
     Wrong(Bad),

@@ -7,7 +7,7 @@ use gw_object::Memory;
 use std::alloc::Global;
 
 /// A figure of a model.
-#[derive(Debug, Drop)]
+#[derive(Drop)]
 pub struct Figure {
     /// What it is called.
     pub name: Vec<u8>,

@@ -3,7 +3,7 @@
 use gw_scan::End;
 
 /// A stream from which a run may have drawn more numbers than are its own.
-#[derive(Clone, Copy, Debug, PartialEq, Eq)]
+#[derive(Clone, Copy, PartialEq, Eq)]
 pub struct Overdraw {
     /// The stream, by its number from 1 to 16.
     pub stream: u8,
@@ -14,7 +14,7 @@ pub struct Overdraw {
 }
 
 /// One run of a study: how it ended, and the value of each figure, in the order of `figures`.
-#[derive(Debug, Drop)]
+#[derive(Drop)]
 pub struct Run {
     /// The named end that stands.
     pub end: End,

@@ -12,7 +12,7 @@ use std::alloc::Global;
 use std::marker::Model;
 
 /// Units of a storage or a queue.
-#[derive(Clone, Copy, Debug, PartialEq, Eq)]
+#[derive(Clone, Copy, PartialEq, Eq)]
 pub struct Amount {
     /// The entity's number, from 0.
     pub entity: u16,
@@ -21,7 +21,7 @@ pub struct Amount {
 }
 
 /// The parts of an abstract state, as a plain record.
-#[derive(Debug, Drop, PartialEq, Eq)]
+#[derive(Drop, PartialEq, Eq)]
 pub struct StateParts {
     /// The parameters that are sure to be set.
     pub parameters: Items<Parameter>,
@@ -33,7 +33,7 @@ pub struct StateParts {
 
 /// An abstract state: what is known of a transaction that is about to enter a block (ours: docs/object-format.md). Its lists
 /// ascend, and no amount is 0.
-#[derive(Debug, Drop)]
+#[derive(Drop)]
 pub struct AbsState {
     parts: StateParts,
 }

@@ -19,7 +19,7 @@ use gw_rules::{Exit, FlowEdge, Parameter, Target, Who, exits, is_used, leads_to,
 use std::alloc::Global;
 
 /// An edge of a block.
-#[derive(Debug, Drop)]
+#[derive(Drop)]
 pub struct Edge {
     /// Where the transaction goes on to.
     pub target: Target,

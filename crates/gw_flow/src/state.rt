@@ -20,7 +20,7 @@ use std::alloc::Global;
 use std::marker::Model;
 
 /// What a parameter holds.
-#[derive(Clone, Copy, Debug, PartialEq, Eq)]
+#[derive(Clone, Copy, PartialEq, Eq)]
 pub enum ParamKind<'a> {
     /// A number.
     Num,
@@ -43,7 +43,7 @@ impl<'a> ParamKind<'a> {
 }
 
 /// A parameter that is set.
-#[derive(Clone, Copy, Debug, PartialEq, Eq)]
+#[derive(Clone, Copy, PartialEq, Eq)]
 pub struct Param<'a> {
     /// Its number, from 1 to 64.
     pub number: u8,
@@ -62,7 +62,7 @@ impl<'a> Keyed for Param<'a> {
 /// An abstract state, as flow works with it: what is known of a transaction that is about to go on to a block or a user
 /// chain. Its lists ascend, and no amount is 0. The blocks of returns are lent, by an object's return rows or by who computes
 /// a state table.
-#[derive(Debug, Drop)]
+#[derive(Drop)]
 pub struct State<'a> {
     params: Items<Param<'a>>,
     facilities: Items<u16>,

@@ -39,7 +39,7 @@ fn own_rows(alloc: Global, states: &[Option<TableState>]) -> Result<Vec<Option<A
 }
 
 /// The rows of an object's table.
-#[derive(Debug, Drop)]
+#[derive(Drop)]
 pub(crate) struct OwnRows {
     /// Those of its blocks, in order.
     pub blocks: Vec<Option<AbsState>>,

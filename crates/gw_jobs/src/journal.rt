@@ -9,7 +9,7 @@ use gw_service::JobFault;
 const MOST_EVENTS: usize = 1 << 20;
 
 /// An event as the journal stores it, in 16 bytes: the user and the job of a submit stand in its row.
-#[derive(Clone, Copy, Debug, PartialEq, Eq)]
+#[derive(Clone, Copy, PartialEq, Eq)]
 pub enum StoredEvent {
     /// A job got the next slot.
     Submit,

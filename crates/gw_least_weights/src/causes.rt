@@ -8,7 +8,7 @@ use crate::rules::{Rule, Sum, of_sum, weight_at};
 use std::alloc::{AllocError, Global};
 
 /// For each place the sum that raised its weight last, and when.
-#[derive(Debug, Drop)]
+#[derive(Drop)]
 pub(crate) struct Causes {
     /// The sums.
     links: Vec<Link>,

@@ -7,7 +7,7 @@ ghost use Rattle.gw_least_weights.specs.Circles.{CarriesOn, IsBorne, KeepNone, L
 use crate::rules::{Rule, Sum, Term, nothing, of_term};
 
 /// A sum of a rule.
-#[derive(Clone, Copy, Debug, PartialEq, Eq)]
+#[derive(Clone, Copy, PartialEq, Eq)]
 pub(crate) struct Link {
     /// The number of the rule, from 0.
     rule: usize,
@@ -67,7 +67,7 @@ impl Link {
 
 /// How far a walk along sums has come: the weight at its place and what was taken off are together at least the weight at its
 /// start and what was added.
-#[derive(Clone, Copy, Debug, PartialEq, Eq)]
+#[derive(Clone, Copy, PartialEq, Eq)]
 struct Walk {
     /// The place that it has come to, from 0.
     place: usize,

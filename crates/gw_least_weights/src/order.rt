@@ -5,7 +5,7 @@ use crate::rules::{Rule, Sum, Term};
 use std::alloc::{AllocError, Global};
 
 /// Which sums a search looks at.
-#[derive(Clone, Copy, Debug, PartialEq, Eq)]
+#[derive(Clone, Copy, PartialEq, Eq)]
 pub(crate) enum Scope {
     /// All.
     All,
@@ -24,7 +24,7 @@ impl Scope {
 }
 
 /// What a search along what rules count comes to.
-#[derive(Debug, Drop)]
+#[derive(Drop)]
 pub(crate) enum Course {
     /// The numbers of the rules, each behind those of all rules at the places that it counts.
     Order(Vec<usize>),
@@ -34,7 +34,7 @@ pub(crate) enum Course {
 }
 
 /// How far a search has come with a place.
-#[derive(Clone, Copy, Debug, PartialEq, Eq)]
+#[derive(Clone, Copy, PartialEq, Eq)]
 enum Stage {
     /// It wasn't come to.
     Before,
@@ -45,7 +45,7 @@ enum Stage {
 }
 
 /// Where the rules at each place are found.
-#[derive(Debug, Drop)]
+#[derive(Drop)]
 struct Places {
     /// For each place the number of the first rule there, or of none.
     first: Vec<usize>,
@@ -81,7 +81,7 @@ impl Places {
 }
 
 /// A search along what rules count.
-#[derive(Debug, Drop)]
+#[derive(Drop)]
 struct Search {
     /// The places that are still to be looked at; the next one is the last.
     pending: Vec<usize>,

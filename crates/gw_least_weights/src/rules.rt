@@ -4,7 +4,7 @@ ghost use Rattle.std.specs.Prelude.{◌≡◌};
 ghost use Rattle.gw_least_weights.specs.Rules as model;
 
 /// So many times the weight at a place; none counts nothing.
-#[derive(Clone, Copy, Debug, PartialEq, Eq)]
+#[derive(Clone, Copy, PartialEq, Eq)]
 pub struct Term {
     /// How many times it counts.
     pub times: u16,
@@ -13,7 +13,7 @@ pub struct Term {
 }
 
 /// A number and two terms together, less another number; 0 where that is greater.
-#[derive(Clone, Copy, Debug, PartialEq, Eq)]
+#[derive(Clone, Copy, PartialEq, Eq)]
 pub struct Sum {
     /// The number.
     pub own: u32,
@@ -26,7 +26,7 @@ pub struct Sum {
 }
 
 /// A rule: the weight at a place is at least each of two sums.
-#[derive(Clone, Copy, Debug, PartialEq, Eq)]
+#[derive(Clone, Copy, PartialEq, Eq)]
 pub struct Rule {
     /// When it has its turn in a round: before those with a greater number.
     pub turn: usize,

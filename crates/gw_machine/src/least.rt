@@ -18,7 +18,7 @@ use gw_blocks::{Block, Units};
 const MANY: usize = 64;
 
 /// The least units that those ask who wait for a storage.
-#[derive(Clone, Copy, Debug, PartialEq, Eq)]
+#[derive(Clone, Copy, PartialEq, Eq)]
 pub(crate) enum Least {
     /// It isn't known.
     Unknown,

@@ -31,7 +31,7 @@ use std::marker::Model;
 const MOST_LIVE: usize = 65_536;
 
 /// What a call of the machine made.
-#[derive(Clone, Copy, Debug, PartialEq, Eq)]
+#[derive(Clone, Copy, PartialEq, Eq)]
 pub enum Made {
     /// The change that it is for.
     Step,

@@ -19,7 +19,7 @@ use gw_rules::Verified;
 use gw_step::End;
 
 /// Times to draw from, each as likely as the others: from a least one to twice a half-range more, in clock units.
-#[derive(Clone, Copy, Debug, PartialEq, Eq)]
+#[derive(Clone, Copy, PartialEq, Eq)]
 pub struct Span {
     /// The least time, in clock units.
     pub least: u32,

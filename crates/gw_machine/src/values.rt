@@ -28,7 +28,7 @@ use gw_rules::Verified;
 use gw_transactions::{Parameters, Transaction};
 
 /// For whom operands are evaluated: the active transaction, or the next that is to arrive.
-#[derive(Clone, Copy, Debug, PartialEq, Eq)]
+#[derive(Clone, Copy, PartialEq, Eq)]
 pub struct Subject {
     /// Its number, from 1.
     pub number: u64,

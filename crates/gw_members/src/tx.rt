@@ -4,7 +4,7 @@
 pub const MOST: usize = 1 << 62;
 
 /// A transaction.
-#[derive(Clone, Copy, Debug, PartialEq, Eq)]
+#[derive(Clone, Copy, PartialEq, Eq)]
 pub struct Tx {
     /// Its place in the machine's slab.
     pub place: usize,
@@ -13,7 +13,7 @@ pub struct Tx {
 }
 
 /// A member of a list that is kept by priority.
-#[derive(Clone, Copy, Debug, PartialEq, Eq)]
+#[derive(Clone, Copy, PartialEq, Eq)]
 pub struct Member {
     /// The transaction.
     pub tx: Tx,
@@ -22,7 +22,7 @@ pub struct Member {
 }
 
 /// A member of the future events chain.
-#[derive(Clone, Copy, Debug, PartialEq, Eq)]
+#[derive(Clone, Copy, PartialEq, Eq)]
 pub struct Event {
     /// The transaction.
     pub tx: Tx,

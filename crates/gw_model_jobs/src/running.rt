@@ -9,7 +9,7 @@ use gw_object::Memory;
 use gw_scan::{Sim, Status};
 
 /// A time of the clock, in clock units.
-#[derive(Clone, Copy, Debug, PartialEq, Eq)]
+#[derive(Clone, Copy, PartialEq, Eq)]
 pub struct Time(pub i64);
 
 /// Whether a named end stands, or the clock is past a time.

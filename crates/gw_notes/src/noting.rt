@@ -15,7 +15,7 @@ use gw_object::{Memory, Parts};
 use std::alloc::Global;
 
 /// Something that is noted of a model.
-#[derive(Clone, Copy, Debug, PartialEq, Eq)]
+#[derive(Clone, Copy, PartialEq, Eq)]
 pub enum Note {
     /// It draws from two streams, by their numbers from 1, and no seeds are given: their own seeds lie so close that what is drawn
     /// from the one is like what is drawn from the other.

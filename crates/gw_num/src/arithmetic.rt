@@ -7,7 +7,7 @@ ghost use Rattle.std.specs.Int.{int_pow};
 ghost use Rattle.gw_num.specs.Arithmetic.{within_i64, sum_of, difference_of, product_of, negative_of, quotient_of, remainder_of, power_of};
 
 /// Why an operation gives no value.
-#[derive(Clone, Copy, Debug, PartialEq, Eq)]
+#[derive(Clone, Copy, PartialEq, Eq)]
 pub enum NumFault {
     /// The mathematical value leaves the range of an `i64`, or there is none: a power with an exponent below 0, a time
     /// with a half-range below 0.

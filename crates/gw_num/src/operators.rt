@@ -6,7 +6,7 @@ ghost use Rattle.gw_num.specs.Operators as model;
 use crate::arithmetic::{NumFault, add, div, mul, neg, pow, rem, sub};
 
 /// The operators before an operand.
-#[derive(Clone, Copy, Debug, PartialEq, Eq)]
+#[derive(Clone, Copy, PartialEq, Eq)]
 pub enum Unary {
     /// `-`.
     Negate,
@@ -15,7 +15,7 @@ pub enum Unary {
 }
 
 /// The operators between operands.
-#[derive(Clone, Copy, Debug, PartialEq, Eq)]
+#[derive(Clone, Copy, PartialEq, Eq)]
 pub enum Binary {
     /// `^`.
     Power,

@@ -13,7 +13,7 @@ const MODULUS: u64 = 2_147_483_647;
 
 /// A stream of random numbers. It stands at a number from 1 to 2147483646, at first its seed. A draw moves it from `x`
 /// to `48271 x mod 2147483647` and gives that number. Contracts see a stream as the number that it stands at.
-#[derive(Clone, Copy, Debug, PartialEq, Eq)]
+#[derive(Clone, Copy, PartialEq, Eq)]
 pub struct Stream {
     last: u32,
 }

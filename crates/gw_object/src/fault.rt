@@ -2,7 +2,7 @@
 
 /// Where a fault lies. Bytes, entities, procedures, instructions and return rows count from 0, blocks and
 /// lines from 1.
-#[derive(Clone, Copy, Debug, PartialEq, Eq)]
+#[derive(Clone, Copy, PartialEq, Eq)]
 pub enum Place {
     /// The first byte of the field at fault.
     Byte(u32),
@@ -25,7 +25,7 @@ pub enum Place {
 }
 
 /// A refusal: its code (docs/refusals.md lists them) and its place.
-#[derive(Clone, Copy, Debug, PartialEq, Eq)]
+#[derive(Clone, Copy, PartialEq, Eq)]
 pub struct Fault {
     /// What is wrong.
     pub code: u16,

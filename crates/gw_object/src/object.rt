@@ -7,7 +7,7 @@ use crate::parts::Parts;
 use std::marker::Model;
 
 /// An object: parts that keep every rule of the object format, so that they have exactly one spelling.
-#[derive(Debug, Drop)]
+#[derive(Drop)]
 pub struct Object {
     parts: Parts,
 }

@@ -10,7 +10,7 @@ use gw_fields::{Items, Keyed};
 pub type Slope = (u8, u32);
 
 /// The operands of a TABLE: which values it counts, and in which classes.
-#[derive(Clone, Copy, Debug, PartialEq, Eq)]
+#[derive(Clone, Copy, PartialEq, Eq)]
 pub struct Table {
     /// What TABULATE enters.
     pub argument: Operand,
@@ -23,7 +23,7 @@ pub struct Table {
 }
 
 /// A point of a function.
-#[derive(Clone, Copy, Debug, PartialEq, Eq)]
+#[derive(Clone, Copy, PartialEq, Eq)]
 pub struct Point {
     /// Up to which argument it counts.
     pub x: i64,
@@ -32,7 +32,7 @@ pub struct Point {
 }
 
 /// A discrete function: its value is that of the first point which the argument isn't above, else that of the last.
-#[derive(Debug, Drop, PartialEq, Eq)]
+#[derive(Drop, PartialEq, Eq)]
 pub struct Function {
     /// Its argument.
     pub argument: Operand,
@@ -41,7 +41,7 @@ pub struct Function {
 }
 
 /// What an entity is.
-#[derive(Debug, Drop, PartialEq, Eq)]
+#[derive(Drop, PartialEq, Eq)]
 pub enum Kind {
     /// Owned by one transaction at a time.
     Facility,
@@ -66,7 +66,7 @@ pub enum Kind {
 }
 
 /// An entity: a facility, a storage, a queue, a logic switch, a savevalue, a table, a user chain, a variable or a function.
-#[derive(Debug, Drop, PartialEq, Eq)]
+#[derive(Drop, PartialEq, Eq)]
 pub struct Entity {
     /// Its name: 1 to 32 letters `A` to `Z`, digits and `_`. No two entities of a kind have one name.
     pub name: Items<u8>,
@@ -75,7 +75,7 @@ pub struct Entity {
 }
 
 /// A parameter that a row of the state table says is set. (Ours: docs/object-format.md.)
-#[derive(Clone, Copy, Debug, PartialEq, Eq)]
+#[derive(Clone, Copy, PartialEq, Eq)]
 pub struct TableParameter {
     /// The parameter's number, from 1 to 64.
     pub number: u8,
@@ -92,7 +92,7 @@ impl Keyed for TableParameter {
 }
 
 /// What a parameter holds by a row of the state table. (Ours: docs/object-format.md.)
-#[derive(Clone, Copy, Debug, PartialEq, Eq)]
+#[derive(Clone, Copy, PartialEq, Eq)]
 pub enum TableKind {
     /// A number.
     Num,
@@ -103,7 +103,7 @@ pub enum TableKind {
 
 /// A return row: the blocks that may have called a subroutine from which a transaction comes back. (Ours:
 /// docs/object-format.md.)
-#[derive(Debug, Drop, PartialEq, Eq)]
+#[derive(Drop, PartialEq, Eq)]
 pub struct ReturnRow {
     /// The numbers of the blocks, from 1, ascending; from 1 to 4,096 of them.
     pub blocks: Items<u16>,
@@ -111,7 +111,7 @@ pub struct ReturnRow {
 
 /// What the state table says of a transaction that is about to enter a block. (Ours:
 /// docs/object-format.md.)
-#[derive(Debug, Drop, PartialEq, Eq)]
+#[derive(Drop, PartialEq, Eq)]
 pub struct TableState {
     /// The parameters that are sure to be set, ascending by number; at most 64.
     pub parameters: Items<TableParameter>,
@@ -123,7 +123,7 @@ pub struct TableState {
 }
 
 /// The parts of an object. Comparing them takes no memory.
-#[derive(Debug, Drop, PartialEq, Eq)]
+#[derive(Drop, PartialEq, Eq)]
 pub struct Parts {
     /// The version of the format in which it is spelled: 1 or 2.
     pub version: u16,

@@ -9,7 +9,7 @@ use gw_object::{Entity, Kind};
 use std::marker::Model;
 
 /// Operands, in order: at most two.
-#[derive(Debug, Drop)]
+#[derive(Drop)]
 pub struct Operands {
     operands: [Operand; 2],
     count: usize,

@@ -34,7 +34,7 @@ pub const MOST_TRACED: u64 = 250_000;
 pub const MOST_NUMBERS: u64 = 2_000_000;
 
 /// Whether a request costs what it may.
-#[derive(Clone, Copy, Debug, PartialEq, Eq)]
+#[derive(Clone, Copy, PartialEq, Eq)]
 pub(crate) enum Allowance {
     /// It does.
     Within,

@@ -13,7 +13,7 @@ use http_server::Response;
 use std::alloc::AllocError;
 
 /// What became of a request.
-#[derive(Clone, Copy, Debug, PartialEq, Eq)]
+#[derive(Clone, Copy, PartialEq, Eq)]
 pub enum Outcome {
     /// It is answered: 200.
     Answered,
@@ -32,7 +32,7 @@ pub enum Outcome {
 }
 
 /// What kind of text a reply has.
-#[derive(Clone, Copy, Debug, PartialEq, Eq)]
+#[derive(Clone, Copy, PartialEq, Eq)]
 pub enum Kind {
     /// The page.
     Html,

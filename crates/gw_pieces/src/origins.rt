@@ -12,7 +12,7 @@ use gw_text::{Body, Expression, Model, Operand, Statement, Word};
 use std::alloc::{AllocError, Global};
 
 /// Where a procedure comes from: a PROCEDURE, or an operand that is an expression.
-#[derive(Clone, Copy, Debug)]
+#[derive(Clone, Copy)]
 pub(crate) struct Origin {
     /// Its statement, from 0.
     pub(crate) statement: usize,

@@ -89,7 +89,7 @@ impl DelayChain for DelayList {
 }
 
 /// A call on a delay list.
-#[derive(Clone, Copy, Debug, PartialEq, Eq)]
+#[derive(Clone, Copy, PartialEq, Eq)]
 pub enum DelayCall {
     /// A member joins behind its peers.
     Join(Member),

@@ -44,7 +44,7 @@ impl EventChain for Fec {
 }
 
 /// A call on a future events chain.
-#[derive(Clone, Copy, Debug, PartialEq, Eq)]
+#[derive(Clone, Copy, PartialEq, Eq)]
 pub enum EventCall {
     /// An event is scheduled.
     Schedule(Event),

@@ -25,7 +25,7 @@ use std::marker::Model;
 /// Transaction Scheduler").
 ///
 /// It is kept in two runs: the settled ones, and some recent ones, which join them many at a time.
-#[derive(Debug, Drop)]
+#[derive(Drop)]
 pub struct Fec {
     settled: VecDeque<Event>,
     recent: VecDeque<Event>,
@@ -150,7 +150,7 @@ impl<'a> Iterator for Events<'a> {
 /// (GPSS World Reference Manual, "The Transaction Scheduler").
 ///
 /// It is one list, in which a newcomer moves those on one side of its place.
-#[derive(Debug, Drop)]
+#[derive(Drop)]
 pub struct Cec {
     members: VecDeque<Member>,
 }
@@ -228,7 +228,7 @@ impl PriorityChain for Cec {
 /// The delay list of one entity, by priority, with a walk over it that can take members out.
 ///
 /// It is one ring: what the walk has passed lies behind the rest.
-#[derive(Debug, Drop)]
+#[derive(Drop)]
 pub struct DelayList {
     // Those that the walk has still to look at, and behind them those that it has passed.
     ring: VecDeque<Member>,

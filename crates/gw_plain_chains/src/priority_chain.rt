@@ -54,7 +54,7 @@ impl PriorityChain for Cec {
 }
 
 /// A call on a current events chain.
-#[derive(Clone, Copy, Debug, PartialEq, Eq)]
+#[derive(Clone, Copy, PartialEq, Eq)]
 pub enum PriorityCall {
     /// A member joins behind its peers.
     InsertBehind(Member),

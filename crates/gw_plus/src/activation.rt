@@ -20,7 +20,7 @@ use gw_object::Parts;
 use gw_operands::{PlusEnd, as_operand, operand_value, source_of};
 
 /// How often a BACK was taken.
-#[derive(Clone, Copy, Debug, Default, PartialEq, Eq)]
+#[derive(Clone, Copy, Default, PartialEq, Eq)]
 pub(crate) struct Turns {
     /// The number of its instruction, from 0.
     pub place: usize,

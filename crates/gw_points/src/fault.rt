@@ -11,7 +11,7 @@ use std::alloc::Global;
 pub const PARAMETER: u16 = 83;
 
 /// Why a parameter is refused.
-#[derive(Clone, Copy, Debug, PartialEq, Eq)]
+#[derive(Clone, Copy, PartialEq, Eq)]
 pub enum ParameterFault {
     /// The word isn't a name, `=`, and whole numbers with commas between them.
     Form,

@@ -1,7 +1,7 @@
 //! Why workers aren't run.
 
 /// Why a service runs no workers, each with the code of its refusal (ours: docs/service.md).
-#[derive(Clone, Copy, Debug, PartialEq, Eq)]
+#[derive(Clone, Copy, PartialEq, Eq)]
 pub enum PoolFault {
     /// 55: no worker, or more than 16.
     Workers,

@@ -6,7 +6,7 @@ ghost use Rattle.gw_report.specs.Figures as model;
 use gw_entities::{Contents, Facility, Storage};
 
 /// The figures of a block.
-#[derive(Clone, Copy, Debug, PartialEq, Eq)]
+#[derive(Clone, Copy, PartialEq, Eq)]
 pub struct BlockFigures {
     /// How often transactions entered it.
     pub entries: u64,
@@ -15,7 +15,7 @@ pub struct BlockFigures {
 }
 
 /// The figures of a table, beside its classes.
-#[derive(Clone, Copy, Debug, PartialEq, Eq)]
+#[derive(Clone, Copy, PartialEq, Eq)]
 pub struct TableFigures {
     /// How many values were entered.
     pub count: u64,
@@ -25,7 +25,7 @@ pub struct TableFigures {
 
 /// The figures of an entity's number, as each kind that the entity may be of: of another than its own they are those of one to
 /// which nothing happened, as the machine has them.
-#[derive(Clone, Copy, Debug, PartialEq, Eq)]
+#[derive(Clone, Copy, PartialEq, Eq)]
 pub struct EntityFigures {
     /// As a facility.
     pub facility: Facility,

@@ -12,7 +12,7 @@ use std::marker::Model;
 
 /// The figures of a state: how the job stands, its clock, steps, entries and count, and those of each block and of each entity.
 /// All are exact: counts, and sums of content times time, as they lie in the state. Averages are made of them where they are told.
-#[derive(Debug, Drop)]
+#[derive(Drop)]
 pub struct Figures {
     status: Status,
     clock: i64,

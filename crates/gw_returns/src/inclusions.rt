@@ -12,7 +12,7 @@ use std::alloc::Global;
 use std::marker::Model;
 
 /// Return rows, and which of them are within which others: found once for all of them, and looked up by their numbers.
-#[derive(Debug, Drop)]
+#[derive(Drop)]
 pub struct Inclusions<'a> {
     rows: &'a [ReturnRow],
     /// For each 64 rows, for each row, a bit for each of the 64 that it is within.

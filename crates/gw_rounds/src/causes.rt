@@ -7,7 +7,7 @@ use gw_blocks::Block;
 use gw_rules::Way;
 
 /// Why a round has no weight certificate, with the numbers of the blocks, from 1, that stand in the way.
-#[derive(Clone, Copy, Debug, PartialEq, Eq)]
+#[derive(Clone, Copy, PartialEq, Eq)]
 pub enum Cause {
     /// Nothing on it takes time, and nothing counts it.
     Endless,
@@ -41,7 +41,7 @@ pub enum Cause {
 }
 
 /// What keeps weights from counting the rounds of a LOOP by its parameter, with the number of the block, from 1.
-#[derive(Clone, Copy, Debug, PartialEq, Eq)]
+#[derive(Clone, Copy, PartialEq, Eq)]
 pub enum Hindrance {
     /// This block, which is on the round too, changes the parameter.
     ChangedWithin(u16),

@@ -65,7 +65,7 @@ pub(crate) fn ends_counting(parts: &Parts, step: Step) -> bool {
 }
 
 /// Blocks by their numbers, from 0 on, which is of none.
-#[derive(Debug, Drop)]
+#[derive(Drop)]
 pub(crate) struct Marks {
     /// Which are marked.
     marks: Vec<bool>,

@@ -13,7 +13,7 @@ use std::alloc::Global;
 const MOST_BLOCKS: usize = 4096;
 
 /// How a step leads to the next block.
-#[derive(Clone, Copy, Debug, PartialEq, Eq)]
+#[derive(Clone, Copy, PartialEq, Eq)]
 pub(crate) enum Passage {
     /// Along an exit of the block.
     Exit(Way),
@@ -24,7 +24,7 @@ pub(crate) enum Passage {
 }
 
 /// A step from a block to another on which no time passes.
-#[derive(Clone, Copy, Debug, PartialEq, Eq)]
+#[derive(Clone, Copy, PartialEq, Eq)]
 pub(crate) struct Step {
     /// The number of the block from which it leads.
     pub(crate) from: u16,
@@ -35,7 +35,7 @@ pub(crate) struct Step {
 }
 
 /// Blocks, and the steps between them on which no time passes.
-#[derive(Debug, Drop)]
+#[derive(Drop)]
 pub(crate) struct Graph {
     /// The steps: those of a block behind those of the one before.
     steps: Vec<Step>,

@@ -6,7 +6,7 @@ use gw_object::{Memory, Parts};
 use std::alloc::Global;
 
 /// Which steps aren't gone.
-#[derive(Clone, Copy, Debug, PartialEq, Eq)]
+#[derive(Clone, Copy, PartialEq, Eq)]
 pub(crate) enum Without {
     /// All are gone.
     Nothing,
@@ -28,7 +28,7 @@ pub(crate) struct Field<'a> {
 }
 
 /// The blocks to which a search came, from one of them on.
-#[derive(Debug, Drop)]
+#[derive(Drop)]
 struct Walk {
     /// Their numbers, the nearest first.
     order: Vec<u16>,

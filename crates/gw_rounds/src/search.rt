@@ -16,7 +16,7 @@ use gw_rules::Treatment;
 use std::alloc::Global;
 
 /// A round of blocks on which no time passes, and why it has no weight certificate.
-#[derive(Debug, Drop)]
+#[derive(Drop)]
 pub struct Finding {
     /// The numbers of its blocks, from 1, in the order in which they are entered, the lowest first.
     pub round: Vec<u16>,
@@ -25,7 +25,7 @@ pub struct Finding {
 }
 
 /// A LOOP whose jump is on a round.
-#[derive(Debug, Drop)]
+#[derive(Drop)]
 struct Counter {
     /// Its block.
     number: u16,

@@ -5,7 +5,7 @@ ghost use Rattle.gw_rows.specs.Rows as model;
 ghost use Rattle.gw_rows.specs.Rows.{source_of};
 
 /// Of what a row's run is one: rows of one study differ in nothing of it but the point.
-#[derive(Debug, Drop)]
+#[derive(Drop)]
 pub struct Origin {
     /// The digest of the model text, before numbers were put into it.
     pub model: Vec<u8>,

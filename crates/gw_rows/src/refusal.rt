@@ -11,7 +11,7 @@ use gw_object::Memory;
 use std::alloc::Global;
 
 /// What a model is refused with.
-#[derive(Debug, Drop)]
+#[derive(Drop)]
 pub struct Refused {
     /// The digest of the model text.
     pub model: Vec<u8>,

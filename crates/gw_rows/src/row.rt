@@ -22,7 +22,7 @@ use itoa::{Buffer, Integer};
 use std::alloc::Global;
 
 /// A run, and of what it is one.
-#[derive(Debug, Drop)]
+#[derive(Drop)]
 pub struct Row {
     /// Of what it is one.
     pub origin: Origin,

@@ -1,7 +1,7 @@
 //! Flow edges: where a transaction goes on to, and what is known of it there.
 
 /// Where an edge leads.
-#[derive(Clone, Copy, Debug, PartialEq, Eq)]
+#[derive(Clone, Copy, PartialEq, Eq)]
 pub enum Target {
     /// To the block of this number, from 1.
     Block(u16),
@@ -10,7 +10,7 @@ pub enum Target {
 }
 
 /// A flow edge of a block, with what is known of a transaction in the form that its maker works with.
-#[derive(Debug, Drop)]
+#[derive(Drop)]
 pub struct FlowEdge<S> {
     /// The code of the fault where the state doesn't fit the row of the target.
     pub code: u16,

@@ -7,7 +7,7 @@ ghost use Rattle.gw_rules.specs.declared.entities.EntityKind.TheVariants as need
 /// What an entity is needed as: SEIZE and RELEASE need a facility, ENTER and LEAVE a storage, QUEUE and DEPART a queue,
 /// GATE what its condition asks of, LOGIC a logic switch, SAVEVALUE a savevalue, TABULATE a table, and LINK and UNLINK a
 /// user chain (GPSS World Reference Manual, chapter 7); an attribute needs what it is of (chapter 3).
-#[derive(Clone, Copy, Debug, PartialEq, Eq)]
+#[derive(Clone, Copy, PartialEq, Eq)]
 pub enum EntityKind {
     /// A facility.
     Facility,
@@ -34,7 +34,7 @@ pub enum EntityKind {
 }
 
 /// An entity that is named.
-#[derive(Clone, Copy, Debug, PartialEq, Eq)]
+#[derive(Clone, Copy, PartialEq, Eq)]
 pub struct Named {
     /// What it is needed as.
     pub needed: EntityKind,

@@ -1,7 +1,7 @@
 //! Parameters that are sure to be set, in numbers of who works with them.
 
 /// What a parameter holds.
-#[derive(Clone, Copy, Debug, PartialEq, Eq)]
+#[derive(Clone, Copy, PartialEq, Eq)]
 pub enum ParameterKind {
     /// A number.
     Num,
@@ -12,7 +12,7 @@ pub enum ParameterKind {
 }
 
 /// A parameter that is set.
-#[derive(Clone, Copy, Debug, PartialEq, Eq)]
+#[derive(Clone, Copy, PartialEq, Eq)]
 pub struct Parameter {
     /// Its number, from 1 to 64.
     pub number: u8,

@@ -8,7 +8,7 @@ use gw_blocks::{Assign, Block, Mode, Operand};
 use gw_object::Slope;
 
 /// What a block does to a parameter on a way of it (ours: docs/weights.md).
-#[derive(Clone, Copy, Debug, PartialEq, Eq)]
+#[derive(Clone, Copy, PartialEq, Eq)]
 pub enum Treatment {
     /// It leaves it as it is.
     Keeps,

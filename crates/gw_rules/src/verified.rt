@@ -8,7 +8,7 @@ use gw_object::Object;
 use std::marker::Model;
 
 /// An object that every check holds of.
-#[derive(Debug, Drop)]
+#[derive(Drop)]
 pub struct Verified {
     object: Object,
 }

@@ -9,7 +9,7 @@ use arrayvec::ArrayVec;
 use gw_blocks::{Block, Operand, Spread};
 
 /// The way on from a block.
-#[derive(Clone, Copy, Debug, PartialEq, Eq)]
+#[derive(Clone, Copy, PartialEq, Eq)]
 pub enum Way {
     /// To the next block.
     Falls,
@@ -18,7 +18,7 @@ pub enum Way {
 }
 
 /// Who goes on along an exit.
-#[derive(Clone, Copy, Debug, PartialEq, Eq)]
+#[derive(Clone, Copy, PartialEq, Eq)]
 pub enum Who {
     /// The transaction that entered the block.
     Itself,
@@ -27,7 +27,7 @@ pub enum Who {
 }
 
 /// An exit of a block.
-#[derive(Clone, Copy, Debug, PartialEq, Eq)]
+#[derive(Clone, Copy, PartialEq, Eq)]
 pub struct Exit {
     /// The way on.
     pub way: Way,

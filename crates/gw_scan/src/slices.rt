@@ -14,7 +14,7 @@ use gw_machine::Machine;
 use gw_members::Memory;
 
 /// What a slice came to.
-#[derive(Clone, Copy, Debug, PartialEq, Eq)]
+#[derive(Clone, Copy, PartialEq, Eq)]
 pub struct Slice {
     /// The steps that it made.
     pub made: u32,

@@ -18,7 +18,7 @@ use std::marker::Model;
 use std::sync::Arc;
 
 /// Why a job can't be made of an object, or can't be started, each with the code of its refusal (ours: docs/refusals.md).
-#[derive(Clone, Copy, Debug, PartialEq, Eq)]
+#[derive(Clone, Copy, PartialEq, Eq)]
 pub enum StartFault {
     /// 50: more than 16 seeds, or one above 2147483646.
     Seed,
@@ -35,7 +35,7 @@ const GREATEST: u64 = 1 << 40;
 
 /// What a job runs: an object that the verifier accepted, the seeds of its 16 streams, the termination count, and the
 /// budget, which is at most how many steps it makes. The object is shared by all specs that were made of one another.
-#[derive(Debug, Drop)]
+#[derive(Drop)]
 pub struct Spec {
     verified: Arc<Verified, Global>,
     // Its blocks, decoded.

@@ -1,7 +1,7 @@
 //! Why a call is refused.
 
 /// Why a call of a service is refused, each with the code of its refusal (ours: docs/service.md).
-#[derive(Clone, Copy, Debug, PartialEq, Eq)]
+#[derive(Clone, Copy, PartialEq, Eq)]
 pub enum JobFault {
     /// 60: 16 jobs of the user run already.
     UserFull,

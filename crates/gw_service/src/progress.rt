@@ -1,7 +1,7 @@
 //! How far a job has come.
 
 /// How a job stands, as its user is told.
-#[derive(Clone, Copy, Debug, PartialEq, Eq)]
+#[derive(Clone, Copy, PartialEq, Eq)]
 pub enum State {
     /// It waits to be taken.
     Ready,
@@ -14,7 +14,7 @@ pub enum State {
 }
 
 /// How far a job has come.
-#[derive(Clone, Copy, Debug, PartialEq, Eq)]
+#[derive(Clone, Copy, PartialEq, Eq)]
 pub struct Progress {
     /// How it stands.
     pub state: State,

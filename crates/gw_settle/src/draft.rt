@@ -9,7 +9,7 @@ use gw_object::{Memory, Parts};
 use std::alloc::Global;
 
 /// The rows of a state table.
-#[derive(Debug, Drop)]
+#[derive(Drop)]
 pub(crate) struct TableRows {
     /// The rows of the blocks, in order.
     pub blocks: Vec<Option<Known>>,
@@ -18,7 +18,7 @@ pub(crate) struct TableRows {
 }
 
 /// Rows in the making.
-#[derive(Debug, Drop)]
+#[derive(Drop)]
 pub(crate) struct Draft {
     /// The rows.
     pub rows: TableRows,

@@ -19,7 +19,7 @@ use std::marker::Model;
 use std::rc::Rc;
 
 /// What a parameter holds.
-#[derive(Debug, Drop)]
+#[derive(Drop)]
 pub(crate) enum KnownKind {
     /// A number.
     Num,
@@ -28,7 +28,7 @@ pub(crate) enum KnownKind {
 }
 
 /// A parameter that is sure to be set.
-#[derive(Debug, Drop)]
+#[derive(Drop)]
 pub(crate) struct KnownParam {
     /// Its number, from 1 to 64.
     pub number: u8,
@@ -37,7 +37,7 @@ pub(crate) struct KnownParam {
 }
 
 /// The lists of a row.
-#[derive(Debug, Drop)]
+#[derive(Drop)]
 pub(crate) struct Lists {
     /// The parameters that are sure to be set.
     pub params: Items<KnownParam>,
@@ -49,7 +49,7 @@ pub(crate) struct Lists {
 
 /// A row of a state table: what is known of a transaction that is about to go to one place. Its lists ascend, and no amount
 /// is 0. A row once more shares its lists.
-#[derive(Debug, Drop)]
+#[derive(Drop)]
 pub(crate) struct Known {
     lists: Rc<Lists, Global>,
 }

@@ -9,7 +9,7 @@ const SHORTEST: u64 = 4;
 const FIRST: u64 = 4;
 
 /// How many rounds are made one by one until a leap is tried.
-#[derive(Clone, Copy, Debug)]
+#[derive(Clone, Copy)]
 pub(crate) struct Pace {
     /// How many are left.
     pub left: u64,

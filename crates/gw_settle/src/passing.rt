@@ -26,7 +26,7 @@ use gw_object::{Memory, Parts};
 use std::alloc::Global;
 
 /// What a row that is sent makes of the rows of one version.
-#[derive(Clone, Copy, Debug)]
+#[derive(Clone, Copy)]
 pub(crate) struct Like {
     /// Their version; 0 is none.
     pub version: u64,
@@ -44,7 +44,7 @@ const NO_LIKE: Like = Like {
 };
 
 /// What was found out last: what a row that was sent makes of the rows of one version.
-#[derive(Clone, Copy, Debug)]
+#[derive(Clone, Copy)]
 pub(crate) struct Latest {
     /// The version of the row that was sent.
     pub version: u64,
@@ -392,7 +392,7 @@ fn send_behind(
 }
 
 /// One or two blocks behind which a row goes on.
-#[derive(Clone, Copy, Debug)]
+#[derive(Clone, Copy)]
 pub(crate) struct Behind {
     /// The number of the first.
     pub first: u16,

@@ -25,7 +25,7 @@ use std::alloc::Global;
 use std::mem;
 
 /// What a state that is sent makes of the rows.
-#[derive(Clone, Copy, Debug, PartialEq, Eq)]
+#[derive(Clone, Copy, PartialEq, Eq)]
 pub(crate) enum Change {
     /// Nothing: what it says was known.
     Same,

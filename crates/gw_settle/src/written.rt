@@ -19,7 +19,7 @@ use gw_object::{
 use std::alloc::{AllocError, Global};
 
 /// Why a state table can't be written.
-#[derive(Clone, Copy, Debug, PartialEq, Eq)]
+#[derive(Clone, Copy, PartialEq, Eq)]
 pub(crate) enum Stop {
     /// It passes a limit of the object format.
     Limit,
@@ -36,7 +36,7 @@ impl From<AllocError> for Stop {
 }
 
 /// A state table, as an object has it.
-#[derive(Debug, Drop)]
+#[derive(Drop)]
 pub struct Written {
     /// The return rows.
     pub returns: Items<ReturnRow>,

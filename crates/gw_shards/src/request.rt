@@ -1,7 +1,7 @@
 //! Which rows are asked for.
 
 /// Which rows are asked for of each point.
-#[derive(Clone, Copy, Debug, PartialEq, Eq)]
+#[derive(Clone, Copy, PartialEq, Eq)]
 pub struct RowsRequest {
     /// The first run.
     pub first: u32,

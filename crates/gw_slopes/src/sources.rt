@@ -9,7 +9,7 @@ use gw_weights::{goes_at_once, own_row, parameter_of};
 use std::alloc::Global;
 
 /// A way from one place to another.
-#[derive(Clone, Copy, Debug, PartialEq, Eq)]
+#[derive(Clone, Copy, PartialEq, Eq)]
 struct Source {
     /// The place from which it leads.
     from: usize,
@@ -19,7 +19,7 @@ struct Source {
 
 /// From where each place is come to at once. The places are those of the blocks, from 0, and behind them those of the return
 /// rows: a return leads to its row, and that to the blocks behind its calls. Nothing rests on it but how soon marks are found.
-#[derive(Debug, Drop)]
+#[derive(Drop)]
 pub(crate) struct Sources {
     /// For each place the number of the first way to it, or of none.
     first: Vec<usize>,

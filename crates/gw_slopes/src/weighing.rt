@@ -16,7 +16,7 @@ use std::alloc::Global;
 use std::mem;
 
 /// Why an object got no weights.
-#[derive(Clone, Copy, Debug, PartialEq, Eq)]
+#[derive(Clone, Copy, PartialEq, Eq)]
 pub enum Refusal {
     /// Memory ran out.
     OutOfMemory,
@@ -25,7 +25,7 @@ pub enum Refusal {
 }
 
 /// What parts have of their own while slopes are tried in them.
-#[derive(Debug, Drop)]
+#[derive(Drop)]
 struct Own {
     /// The version.
     version: u16,

@@ -5,7 +5,7 @@ ghost use Rattle.std.specs.Prelude.{◌≡◌, []};
 use std::alloc::Global;
 
 /// Where the parts of the object that a model text becomes stand in the text: lines, from 1.
-#[derive(Debug, Drop)]
+#[derive(Drop)]
 pub struct Sources {
     /// The lines of the block statements: that of block 1 stands first.
     pub blocks: Vec<u32>,

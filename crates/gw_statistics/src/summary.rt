@@ -12,7 +12,7 @@ use crate::sums::{are_near, are_small, greatest, least, total};
 pub const MOST_VALUES: usize = 512;
 
 /// What values say, in their unit.
-#[derive(Clone, Copy, Debug, PartialEq, Eq)]
+#[derive(Clone, Copy, PartialEq, Eq)]
 pub struct Summary {
     /// Their mean, rounded to the nearest.
     pub mean: i128,

@@ -2,7 +2,7 @@
 
 /// The named ends of a job. All but `Done` and `Budget` leave the state as it was before the step that brought them, but
 /// for the count of steps and the end (ours: docs/machine.md).
-#[derive(Clone, Copy, Debug, PartialEq, Eq)]
+#[derive(Clone, Copy, PartialEq, Eq)]
 pub enum End {
     /// The termination count is 0 or less after a TERMINATE, whose effect stands.
     Done,

@@ -3,7 +3,7 @@
 use gw_blocks::Link;
 
 /// An assembly that begins.
-#[derive(Clone, Copy, Debug, PartialEq, Eq)]
+#[derive(Clone, Copy, PartialEq, Eq)]
 pub struct Assembling {
     /// The block at which the first of the set waits, by its number from 1.
     pub block: u16,
@@ -15,7 +15,7 @@ pub struct Assembling {
 
 /// Where the active transaction is placed once it has entered its block, or was refused by it (GPSS World Reference
 /// Manual, "The Transaction Scheduler").
-#[derive(Clone, Copy, Debug, PartialEq, Eq)]
+#[derive(Clone, Copy, PartialEq, Eq)]
 pub enum Placement {
     /// It stays active.
     StaysActive,

@@ -8,7 +8,7 @@ ghost use Rattle.gw_study.specs.Requests.{MayBeStudied};
 pub const MOST_RUNS: u32 = 512;
 
 /// What a study is asked for.
-#[derive(Clone, Copy, Debug, PartialEq, Eq)]
+#[derive(Clone, Copy, PartialEq, Eq)]
 pub struct StudyRequest {
     /// How many runs, 1 to 512.
     pub runs: u32,

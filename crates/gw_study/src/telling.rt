@@ -17,7 +17,7 @@ use gw_statistics::{Summary, runs_to_halve};
 use std::alloc::Global;
 
 /// What a study found: the figures of the model, and its runs in order.
-#[derive(Debug, Drop)]
+#[derive(Drop)]
 pub struct Results {
     /// The figures, in the order of the values of each run.
     pub figures: Vec<Figure>,

@@ -8,7 +8,7 @@ use std::alloc::Global;
 pub const ROW: u16 = 84;
 
 /// Why a line is refused.
-#[derive(Clone, Copy, Debug, PartialEq, Eq)]
+#[derive(Clone, Copy, PartialEq, Eq)]
 pub enum RowFault {
     /// It has no line feed at its end: it was cut off.
     Cut,
@@ -37,7 +37,7 @@ pub enum RowFault {
 }
 
 /// Why a line isn't taken, or all lines aren't.
-#[derive(Debug, Drop)]
+#[derive(Drop)]
 pub enum NoRow {
     /// A line is refused, by its number, from 1.
     Fault(u64, RowFault),

@@ -24,7 +24,7 @@ pub(crate) struct PointRows {
 }
 
 /// What a line does to others.
-#[derive(Clone, Copy, Debug, PartialEq, Eq)]
+#[derive(Clone, Copy, PartialEq, Eq)]
 pub(crate) enum Adding {
     /// It is a run that wasn't there.
     New,

@@ -27,7 +27,7 @@ use gw_study::{Results, StudyRequest, results_text};
 use std::alloc::Global;
 
 /// What a summary is asked for.
-#[derive(Clone, Copy, Debug, PartialEq, Eq)]
+#[derive(Clone, Copy, PartialEq, Eq)]
 pub struct SummaryRequest {
     /// Of which study of so many runs the rows have to be, from 1.
     pub seeds: u32,

@@ -7,7 +7,7 @@ use crate::sight::{Candidate, Choice, Sight};
 use gw_scan::Sim;
 
 /// What a step did.
-#[derive(Clone, Copy, Debug, PartialEq, Eq)]
+#[derive(Clone, Copy, PartialEq, Eq)]
 pub enum Happening {
     /// The first of the current events chain became active.
     Activation,

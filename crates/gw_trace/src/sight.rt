@@ -6,7 +6,7 @@ ghost use Rattle.gw_trace.specs.Sights as model;
 use gw_scan::Sim;
 
 /// A block that a transaction tries to enter.
-#[derive(Clone, Copy, Debug, PartialEq, Eq)]
+#[derive(Clone, Copy, PartialEq, Eq)]
 pub struct Candidate {
     /// Its number, from 1; 0 stands for no block.
     pub block: u16,
@@ -15,7 +15,7 @@ pub struct Candidate {
 }
 
 /// The two blocks that a transaction tries which has entered a TRANSFER BOTH.
-#[derive(Clone, Copy, Debug, PartialEq, Eq)]
+#[derive(Clone, Copy, PartialEq, Eq)]
 pub struct Choice {
     /// The one that it tries first.
     pub first: Candidate,
@@ -24,7 +24,7 @@ pub struct Choice {
 }
 
 /// What is seen of a state before a step, so that the state after it tells what the step did.
-#[derive(Clone, Copy, Debug, PartialEq, Eq)]
+#[derive(Clone, Copy, PartialEq, Eq)]
 pub struct Sight {
     /// The number of the active transaction, from 1, if there is one.
     pub active: Option<u64>,

@@ -22,7 +22,7 @@ use std::alloc::Global;
 const HEADING: &str = "       CLOCK    XACT  BLOCK    CEC    FEC  DELAY  RETRY  WHAT\n";
 
 /// The times between which steps are shown, both included, in clock units.
-#[derive(Clone, Copy, Debug, PartialEq, Eq)]
+#[derive(Clone, Copy, PartialEq, Eq)]
 pub struct Window {
     /// The first.
     pub from: Time,

@@ -33,7 +33,7 @@ fn lower(counts: &mut [usize], block: u16)
 }
 
 /// How many there are at each block, by its number from 1 to 4,096, and how many that were in none yet, at 0.
-#[derive(Debug, Drop)]
+#[derive(Drop)]
 pub(crate) struct BlockCounts {
     counts: Vec<usize>,
 }

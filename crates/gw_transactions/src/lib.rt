@@ -22,7 +22,7 @@ use std::marker::Model;
 
 /// A transaction: what moves through the blocks of a model, with the attributes that the GPSS World Reference Manual
 /// lists for it in its chapter on entities, but for its parameters and its user chain, which lie beside it.
-#[derive(Clone, Copy, Debug, PartialEq, Eq)]
+#[derive(Clone, Copy, PartialEq, Eq)]
 pub struct Transaction {
     /// The number of the block that it is in, from 1, or 0 before its first.
     pub current: u16,
@@ -37,7 +37,7 @@ pub struct Transaction {
 }
 
 /// A transaction as it is kept. Its parameters lie elsewhere, and are copied for copies of it alone.
-#[derive(Debug, Drop)]
+#[derive(Drop)]
 pub(crate) struct Kept {
     /// Its attributes.
     pub attributes: Transaction,
@@ -52,7 +52,7 @@ pub(crate) struct Kept {
 /// A handle, `Tx`, has a transaction's number and its place in memory; from `insert` to `remove` it serves to read
 /// and write the transaction. Contracts see two tables by number, the transactions and their places, and how many
 /// more fit with no allocation.
-#[derive(Debug, Drop)]
+#[derive(Drop)]
 pub struct Transactions {
     // Each transaction with its number.
     slots: Slab<(u64, Kept)>,

@@ -13,7 +13,7 @@ use std::marker::Model;
 ///
 /// Each has a slot, which is 0 as long as it isn't set. Which are set is kept beside the slots, so that the state can be told
 /// from what is kept; nothing is decided by it.
-#[derive(Debug, Drop)]
+#[derive(Drop)]
 pub struct Parameters {
     // The values, from number 1 on.
     slots: Vec<i64>,

@@ -14,7 +14,7 @@ use std::marker::Model;
 
 /// The user chains: the transactions that LINK blocks put aside, each chain in its own order, until
 /// an UNLINK block takes them from its front (GPSS World Reference Manual, "LINK" and "UNLINK").
-#[derive(Debug, Drop)]
+#[derive(Drop)]
 pub struct UserChains {
     chains: Vec<VecDeque<Tx>>,
     // How many are on all chains.
@@ -154,7 +154,7 @@ impl UserChains {
 }
 
 /// An end of a chain.
-#[derive(Clone, Copy, Debug)]
+#[derive(Clone, Copy)]
 pub enum End {
     /// Where the first is.
     Front,

@@ -9,7 +9,7 @@ use gw_object::{Entity, Parts, chains_in};
 use gw_rules::chain_place;
 
 /// How many places there are of each sort.
-#[derive(Clone, Copy, Debug, PartialEq, Eq)]
+#[derive(Clone, Copy, PartialEq, Eq)]
 pub(crate) struct Layout {
     /// Of the blocks.
     pub(crate) blocks: u16,

@@ -14,7 +14,7 @@ use gw_object_bytes::build;
 use std::alloc::Global;
 
 /// The weights of the blocks and of the user chains of an object.
-#[derive(Debug, Drop)]
+#[derive(Drop)]
 pub struct Weights {
     /// Of the blocks, in order.
     pub blocks: Vec<u32>,
