@@ -172,10 +172,16 @@ impl Nesting {
     /// Keeps a statement that has ended; one that nests too deep is left away.
     fn push(&mut self, statement: PlusStatement) -> Result<(), Stop> {
         if self.open.len() < MOST_NESTED {
-            self.statements.push(statement)?;
+            self.keep(statement)
         } else {
-            self.statements.push(PlusStatement::Return(None))?;
+            drop(statement);
+            self.keep(PlusStatement::Return(None))
         }
+    }
+
+    /// Keeps a statement.
+    fn keep(&mut self, statement: PlusStatement) -> Result<(), Stop> {
+        self.statements.push(statement)?;
         Ok(())
     }
 

@@ -411,8 +411,8 @@ impl Plus {
 
     /// The PROCEDURE, at its end; its name is then known.
     pub(crate) fn end(&mut self, reader: &mut Expressions) -> Result<Procedure, Stop> {
-        let statement = self.nesting.pop()?;
         reader.procedures.insert(self.name.clone()?)?;
+        let statement = self.nesting.pop()?;
         Ok(self.finished(statement))
     }
 
