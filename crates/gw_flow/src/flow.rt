@@ -59,11 +59,15 @@ pub(crate) fn passed(
     requires room { HasRoom (known_row returns.now state.now) }
     ensures { IfOk result (λ s. HasPassed returns.now number block.now state.now s) }
 {
-    let seen = State::of(alloc, returns, state)?;
-    let passed = after(alloc, number, block, &seen)?;
     let set = parameter_set(number, block);
     let parameters = parameters_with(alloc, set, &state.parts().parameters)?;
-    passed.in_numbers_of(alloc, &parameters)
+    let seen = State::of(alloc, returns, state)?;
+    let passed = after(alloc, number, block, &seen);
+    drop(seen);
+    let passed = passed?;
+    let out = passed.in_numbers_of(alloc, &parameters);
+    drop(passed);
+    out
 }
 
 /// Edges in the numbers of these parameters, where these say what the edges' states say of them.
@@ -97,11 +101,15 @@ fn own_edges(
     ensures same { IfOk result (λ es. AreOwnEdges returns.now number block.now state.now es.items) }
     ensures own { IfOk result (λ es. HaveGiven es.items number block.now state.now.parameters) }
 {
-    let seen = State::of(alloc, returns, state)?;
-    let edges = own_edges_of(alloc, number, block, &seen)?;
     let set = parameter_set(number, block);
     let parameters = parameters_with(alloc, set, &state.parts().parameters)?;
-    in_numbers_of(alloc, &edges, &parameters)
+    let seen = State::of(alloc, returns, state)?;
+    let edges = own_edges_of(alloc, number, block, &seen);
+    drop(seen);
+    let edges = edges?;
+    let out = in_numbers_of(alloc, &edges, &parameters);
+    drop(edges);
+    out
 }
 
 /// The edge of the members whom a block sends on from their user chain, in the numbers of their row of the state table, if

@@ -1,6 +1,6 @@
 //! The lists of abstract states.
 
-ghost use Rattle.std.specs.Prelude.{◌≡◌, ℕ, ◌==◌, ◌++◌, option_to_list, IfOk};
+ghost use Rattle.std.specs.Prelude.{◌≡◌, ℕ, ◌==◌, ◌++◌, filter, nat_lt, option_to_list, IfOk};
 ghost use Rattle.std.specs.List.{find};
 ghost use Rattle.gw_rules.specs.Entries as entries;
 ghost use Rattle.gw_rules.specs.Seen.{units_seen};
@@ -94,22 +94,36 @@ pub(crate) fn of_key<T: Keyed>(items: &[T], key: u16) -> Option<T>
     None
 }
 
+/// The elements whose keys are below this one.
+fn those_below<T: Keyed>(alloc: Global, items: &[T], key: u16) -> Result<Vec<T>, Memory>
+    ensures { IfOk result (λ all. all.items ≡ filter (λ x. nat_lt (T.key x) key) items.now) }
+{
+    items
+        .iter()
+        .copied()
+        .filter(|other| other.key() < key)
+        .collect(alloc)
+}
+
+/// The elements whose keys are above this one.
+fn those_above<T: Keyed>(alloc: Global, items: &[T], key: u16) -> Result<Vec<T>, Memory>
+    ensures { IfOk result (λ all. all.items ≡ filter (λ x. nat_lt key (T.key x)) items.now) }
+{
+    items
+        .iter()
+        .copied()
+        .filter(|other| key < other.key())
+        .collect(alloc)
+}
+
 /// A list with an element, in its place by its key; it stands there for the one of its key.
 pub(crate) fn in_place<T: Keyed>(alloc: Global, items: &[T], item: T) -> Result<Vec<T>, Memory>
     ensures { IfOk result (λ all. all.items ≡ entries.in_place T.key item items.now) }
 {
     let key = item.key();
-    let mut all: Vec<T> = items
-        .iter()
-        .copied()
-        .filter(|other| other.key() < key)
-        .collect(alloc)?;
+    let mut all = those_below(alloc, items, key)?;
     all.push(item)?;
-    let above: Vec<T> = items
-        .iter()
-        .copied()
-        .filter(|other| key < other.key())
-        .collect(alloc)?;
+    let above = those_above(alloc, items, key)?;
     all.extend_from_slice(&above)?;
     Ok(all)
 }
@@ -145,19 +159,11 @@ pub(crate) fn with_amount(
 ) -> Result<Vec<Amount>, Memory>
     ensures { IfOk result (λ all. ArePut entity number amounts.now all.items) }
 {
-    let mut all: Vec<Amount> = amounts
-        .iter()
-        .copied()
-        .filter(|a| a.entity < entity)
-        .collect(alloc)?;
+    let mut all = those_below(alloc, amounts, entity)?;
     if number != 0 {
         all.push(Amount { entity, number })?;
     }
-    let above: Vec<Amount> = amounts
-        .iter()
-        .copied()
-        .filter(|a| entity < a.entity)
-        .collect(alloc)?;
+    let above = those_above(alloc, amounts, entity)?;
     all.extend_from_slice(&above)?;
     Ok(all)
 }

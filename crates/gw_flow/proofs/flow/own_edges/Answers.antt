@@ -9,8 +9,8 @@ use Rattle.gw_rules.specs.Blocks.{parameter_set, edges_from, joins}
 use Rattle.gw_flow.proofs.Own.{own_at_edges, with_ascends}
 use Rattle.gw_flow.proofs.flow.own_edges.Goals as goal
 
-pub in_numbers_of-requires : goal.in_numbers_of-requires
-in_numbers_of-requires c =
+pub in_numbers_of-out-requires : goal.in_numbers_of-out-requires
+in_numbers_of-out-requires c =
     let own : c.in_ok-parameters.parameters ≡ parameters_with (parameter_set c.args.number c.args.block.now) c.args.state.now.parameters = search rules in
     subst (AllPairs (λ (a b : Parameter). a.number < b.number)) (sym own)
     (with_ascends (parameter_set c.args.number c.args.block.now) c.args.state.now.parameters c.parts.ensures.ordered.parameters)
@@ -23,4 +23,4 @@ returns-clause-same c =
     ++ joins c.args.block.now (known_row rows c.args.state.now) = search rules in
     let each : All (λ (e : FlowEdge). e.state.params ≡ params_of rows c.in_ok-parameters.parameters) c.deref.result.now =
     rw (own, edges) (own_at_edges rows c.args.number c.args.block.now c.args.state.now) in
-    IfOk-weaker c.in_numbers_of.result _ _ (λ out same. subst (SayTheSame rows out.items) edges (same rows each)) c.in_numbers_of.ensures.same
+    IfOk-weaker c.in_numbers_of-out.result _ _ (λ out same. subst (SayTheSame rows out.items) edges (same rows each)) c.in_numbers_of-out.ensures.same

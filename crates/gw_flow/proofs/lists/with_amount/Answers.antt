@@ -1,8 +1,5 @@
 use Rattle.std.proofs.Common.{rules, ◌≡◌, ◌++◌, [], ◌∷◌, nat_lt, ap, ◌∙◌}
 use Rattle.std.specs.Prelude.{filter}
-use Rattle.std.proofs.lemmas.Iterator.{items_from_collect, YieldsList-from_slice}
-use Rattle.std.proofs.lemmas.Iterator.Consumers.{YieldsList-at, YieldsList-from_copied, YieldsList-from_filter}
-use Rattle.std.proofs.lemmas.Result.{IfOk-at_ok}
 use Rattle.gw_flow.specs.Known.{amounts_of}
 use Rattle.gw_flow.specs.declared.abstract_state.Amount.{Amount}
 use Rattle.gw_flow.proofs.Amounts.{entered, amounts-none, amounts-one, written}
@@ -11,20 +8,8 @@ use Rattle.gw_flow.proofs.lists.with_amount.Goals as goal
 
 pub returns : goal.returns
 returns c =
-    let below : c.in_ok-all.all.items ≡ filter (λ (a : Amount). nat_lt a.entity c.args.entity) c.args.amounts.now =
-    IfOk-at_ok _ c.in_ok-all.was
-    (items_from_collect _ c.collect.ensures.ran
-    (YieldsList-from_filter _ (λ (a : Amount). nat_lt a.entity c.args.entity)
-    (YieldsList-at c.filter.ensures.source
-    (YieldsList-from_copied (YieldsList-at c.copied.ensures.source (YieldsList-from_slice c.args.amounts.now cc))))
-    c.filter.ensures.closure (λ x b q k. search rules))) in
-    let above : c.in_ok-above.above.items ≡ filter (λ (a : Amount). nat_lt c.args.entity a.entity) c.args.amounts.now =
-    IfOk-at_ok _ c.in_ok-above.was
-    (items_from_collect _ c.collect-2.ensures.ran
-    (YieldsList-from_filter _ (λ (a : Amount). nat_lt c.args.entity a.entity)
-    (YieldsList-at c.filter-2.ensures.source
-    (YieldsList-from_copied (YieldsList-at c.copied-2.ensures.source (YieldsList-from_slice c.args.amounts.now cc))))
-    c.filter-2.ensures.closure (λ x b q k. search rules))) in
+    let below : c.in_ok-all.all.items ≡ filter (λ (a : Amount). nat_lt a.entity c.args.entity) c.args.amounts.now = search rules in
+    let above : c.in_ok-above.above.items ≡ filter (λ (a : Amount). nat_lt c.args.entity a.entity) c.args.amounts.now = search rules in
     let whole : c.extend_from_slice.new.self.items ≡ c.if-number-ne0.all.items ++ c.in_ok-above.above.items =
     c.in_ok-extend_from_slice.ensures.items ∙ ap (λ ys. c.if-number-ne0.all.items ++ ys) c.deref.ensures.value in
     let here : amounts_of c.if-number-ne0.all.items ≡ amounts_of c.in_ok-all.all.items ++ entered c.args.entity c.args.number = elim c.if-number-ne0.branch [
