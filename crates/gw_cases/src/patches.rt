@@ -255,38 +255,73 @@ fn patch_chain(alloc: Global, parts: &mut Parts, name: &[u8], words: &[&[u8]]) -
 ///   number`, `state PLACE parameter P return R`: the row of a block or of a user chain, of which the last four add to it.
 pub fn apply(alloc: Global, parts: &mut Parts, words: &[&[u8]]) -> Result<(), Stop> {
     match words {
-        [b"version", value] => {
-            parts.version = number_u16(value)?;
-            Ok(())
-        }
-        [b"slopes", value] => {
-            let slopes = Items::from_vec(vec![in alloc; None; place(value)?]?);
-            drop(mem::replace(&mut parts.slopes, slopes));
-            Ok(())
-        }
-        [b"count", value] => {
-            parts.count = number(value)?;
-            Ok(())
-        }
-        [b"seeds", seeds @ ..] => {
-            let seeds = Items::from_vec(numbers_u32(alloc, seeds)?);
-            drop(mem::replace(&mut parts.seeds, seeds));
-            Ok(())
-        }
-        [b"block", block, rest @ ..] => { patch_block(alloc, parts, block_place(block)?, rest) }
+        [b"version", value] => put_version(parts, value),
+        [b"slopes", value] => put_slopes(alloc, parts, value),
+        [b"count", value] => put_count(parts, value),
+        [b"seeds", seeds @ ..] => put_seeds(alloc, parts, seeds),
+        [b"block", block, rest @ ..] => patch_a_block(alloc, parts, block, rest),
         [b"chain", chain, rest @ ..] => patch_chain(alloc, parts, chain, rest),
         [b"procedure", procedure, b"bytes", bytes @ ..] => {
-            let value = spelled::<CodeFormat, Procedure>(alloc, bytes)?;
-            put_at(alloc, &mut parts.procedures, place(procedure)?, value)
+            put_procedure(alloc, parts, procedure, bytes)
         }
-        [b"return", blocks @ ..] => {
-            let blocks = Items::from_vec(numbers_u16(alloc, blocks)?);
-            push(alloc, &mut parts.returns, ReturnRow { blocks })?;
-            Ok(())
-        }
+        [b"return", blocks @ ..] => add_return(alloc, parts, blocks),
         [b"state", name, rest @ ..] => patch_state(alloc, parts, name, rest),
         _ => Err(Stop::Unknown),
     }
+}
+
+/// `version N`.
+fn put_version(parts: &mut Parts, value: &[u8]) -> Result<(), Stop> {
+    parts.version = number_u16(value)?;
+    Ok(())
+}
+
+/// `slopes N`.
+fn put_slopes(alloc: Global, parts: &mut Parts, value: &[u8]) -> Result<(), Stop> {
+    let slopes = Items::from_vec(vec![in alloc; None; place(value)?]?);
+    drop(mem::replace(&mut parts.slopes, slopes));
+    Ok(())
+}
+
+/// `count N`.
+fn put_count(parts: &mut Parts, value: &[u8]) -> Result<(), Stop> {
+    parts.count = number(value)?;
+    Ok(())
+}
+
+/// `seeds N ..`.
+fn put_seeds(alloc: Global, parts: &mut Parts, seeds: &[&[u8]]) -> Result<(), Stop> {
+    let seeds = Items::from_vec(numbers_u32(alloc, seeds)?);
+    drop(mem::replace(&mut parts.seeds, seeds));
+    Ok(())
+}
+
+/// `block B ..`.
+fn patch_a_block(
+    alloc: Global,
+    parts: &mut Parts,
+    block: &[u8],
+    rest: &[&[u8]],
+) -> Result<(), Stop> {
+    patch_block(alloc, parts, block_place(block)?, rest)
+}
+
+/// `procedure P bytes HEX ..`.
+fn put_procedure(
+    alloc: Global,
+    parts: &mut Parts,
+    procedure: &[u8],
+    bytes: &[&[u8]],
+) -> Result<(), Stop> {
+    let value = spelled::<CodeFormat, Procedure>(alloc, bytes)?;
+    put_at(alloc, &mut parts.procedures, place(procedure)?, value)
+}
+
+/// `return B ..`.
+fn add_return(alloc: Global, parts: &mut Parts, blocks: &[&[u8]]) -> Result<(), Stop> {
+    let blocks = Items::from_vec(numbers_u16(alloc, blocks)?);
+    push(alloc, &mut parts.returns, ReturnRow { blocks })?;
+    Ok(())
 }
 
 /// Puts the bytes that words spell in the place of those from one place to another: `6 7 ff 00` puts two bytes in the place of
