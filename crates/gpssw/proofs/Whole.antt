@@ -4,12 +4,11 @@ use Rattle.std.proofs.Common.{refl, sym, subst, ap, ◌∙◌}
 use Rattle.std.proofs.lemmas.List.{take_all, length-take-le}
 use Rattle.std.proofs.lemmas.Bool.Decides.{nat_tests}
 use Rattle.gw_object.specs.declared.fault.Fault.{Fault}
-use Rattle.gw_object.specs.declared.fault.Place.TheVariants.{Byte}
+use Rattle.gw_object.specs.declared.fault.Place.TheVariants.{Byte, Line}
 use Rattle.gw_object.specs.Codes.{limit}
 use Rattle.gw_object.specs.declared.limits.TheConstants.{MOST_BYTES}
 use Rattle.gw_object.specs.Reading.{first_fault}
 use Rattle.gw_text_tokens.specs.Codes.{length_fault}
-use Rattle.gw_object.specs.declared.fault.Place.TheVariants.{Line}
 use Rattle.gw_answers.specs.Answer.{IsAnswer, IsCheck, job_of, object_of}
 use Rattle.gw_answers.specs.Assembly.{IsAssembly, IsRefusedText, HasStatements}
 use Rattle.gw_answers.specs.Requests.{answers_to}

@@ -10,3 +10,7 @@ pub mod Laws
 pub mod Acceptance
 pub mod Refusal
 pub mod Service
+-- THE JOB OF A MODEL TEXT
+pub mod ModelJobs
+-- ITS RUN
+pub mod Running

@@ -1,15 +1,17 @@
 //! What the program has to say of one input: from the bytes of a model text or of an object to a text and a status; and
 //! verdicts in words, the text of a refusal with the name of its code, and that of an accepted object (docs/program.md). It
-//! reads and writes nothing.
+//! reads and writes nothing. For what planners ask of a model it makes the job of a model text and runs it (docs/planner.md).
 #![tactic(auto)]
 
 mod acceptance;
 mod answer;
 pub mod codes;
+mod job;
 mod laws;
 mod names;
 mod refusal;
 mod request;
+mod running;
 mod service;
 pub mod status;
 
@@ -18,8 +20,10 @@ pub use answer::{
     Answer, BUDGET, NoJob, accepted_in, answer_acceptance, answer_refusal, answer_to, run_to_end,
     spec_of,
 };
+pub use job::spec_of_text;
 pub use laws::answers_are_determined;
 pub use names::NAMES;
 pub use refusal::Refusal;
 pub use request::Request;
+pub use running::{Time, is_over, run_past};
 pub use service::{refusal_of_job, without_place};

@@ -1,6 +1,6 @@
 -- An object that is refused though all but its weights pass: no weights do.
 use Rattle.std.proofs.Common.{◌≡◌, ◌⊎◌, inl, inr, ◌+◌, Some, Result, Ok, Err, IfErr, refl, sym, ◌∙◌, subst}
-use Rattle.gw_blocks.specs.Limits.{most_parameters}
+use Rattle.gw_object.specs.Limits.{most_parameters}
 use Rattle.gw_object.specs.Grammar.{HasSpelling}
 use Rattle.gw_object.specs.declared.fault.Fault.{Fault}
 use Rattle.gw_object.specs.declared.parts.Parts.{Parts}

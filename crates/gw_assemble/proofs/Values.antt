@@ -4,20 +4,20 @@ use Rattle.std.specs.Option.{option_and_then}
 use Rattle.std.specs.Prelude.{slice_get, string_bytes}
 use Rattle.gw_num.specs.Operators.{binary_value, unary_value}
 use Rattle.gw_num.specs.Table.{at}
-use Rattle.gw_blocks.specs.declared.parts.Operand.{Operand}
-use Rattle.gw_blocks.specs.declared.parts.Operand.TheVariants as operands
-use Rattle.gw_code.specs.declared.parts.Instruction.{Instruction}
-use Rattle.gw_code.specs.declared.parts.Instruction.TheVariants as instructions
-use Rattle.gw_code.specs.declared.parts.Procedure.{Procedure}
-use Rattle.gw_code.specs.declared.parts.Sna.{Sna}
+use Rattle.gw_object.specs.declared.blocks.Operand.{Operand}
+use Rattle.gw_object.specs.declared.blocks.Operand.TheVariants as operands
+use Rattle.gw_object.specs.declared.code.Instruction.{Instruction}
+use Rattle.gw_object.specs.declared.code.Instruction.TheVariants as instructions
+use Rattle.gw_object.specs.declared.code.Procedure.{Procedure}
+use Rattle.gw_object.specs.declared.code.Sna.{Sna}
 use Rattle.gw_object.specs.declared.parts.Kind.{Kind}
 use Rattle.gw_object.specs.declared.parts.Parts.{Parts}
-use Rattle.gw_operands.specs.Code.{procedure_at, costs_of}
-use Rattle.gw_operands.specs.Environment.{Environment}
-use Rattle.gw_operands.specs.Meaning.{Frame, Next, Goes, Calls, or_stuck, push_value, opening_frame, act, next}
-use Rattle.gw_operands.specs.Outcome.{Answer, if_going, once_called, answer_by, answer_within, outcome_of}
-use Rattle.gw_operands.specs.Results.{value_by_operand}
-use Rattle.gw_operands.specs.Sources.{source_of, as_operand}
+use Rattle.gw_rules.specs.Code.{procedure_at, costs_of}
+use Rattle.gw_rules.specs.Environment.{Environment}
+use Rattle.gw_rules.specs.Meaning.{Frame, Next, Goes, Calls, or_stuck, push_value, opening_frame, act, next}
+use Rattle.gw_rules.specs.Outcome.{Answer, if_going, once_called, answer_by, answer_within, outcome_of}
+use Rattle.gw_rules.specs.Results.{value_by_operand}
+use Rattle.gw_rules.specs.Sources.{source_of, as_operand}
 use Rattle.gw_text.specs.declared.model.Statement.{Statement}
 use Rattle.gw_text_expressions.specs.declared.model.Expression.{Expression, Row_of-Expression, end_of-Expression, more_of-Expression}
 use Rattle.gw_text_expressions.specs.declared.model.Expression.TheVariants.{Whole, Name, Sna as Attribute, Parentheses', Call', Unary', Binary'}

@@ -1,6 +1,6 @@
 -- From the parts of an object to one that is accepted.
 use Rattle.std.specs.Prelude.{◌≡◌, ◌⊎◌, ℕ, ◌+◌, List, Some}
-use Rattle.gw_blocks.specs.Limits.{most_parameters}
+use Rattle.gw_object.specs.Limits.{most_parameters}
 use Rattle.gw_object.specs.declared.fault.Fault.{Fault}
 use Rattle.gw_object.specs.declared.parts.Parts.{Parts}
 use Rattle.gw_object.specs.Grammar.{HasSpelling}

@@ -1,20 +1,13 @@
 -- The grammar of blocks is exact: each of its fields, and blocks.
 use Rattle.std.proofs.Common.{◌≡◌, ℕ, Bool, true, false, IsTrue, eqb, List, [], ◌∷◌, get_or, refl, ◌∙◌, arith, rules}
 use Rattle.std.specs.Int.{w16, w32, w64}
-use Rattle.gw_blocks.specs.Limits.{most_parameters, most_streams}
-use Rattle.gw_blocks.specs.declared.parts.Operand.{Operand}
-use Rattle.gw_blocks.specs.declared.parts.Operand.TheVariants.{Constant, Parameter, Attribute, OfEntity, Random, Procedure}
-use Rattle.gw_blocks.specs.declared.parts.Block.{Block}
-use Rattle.gw_blocks.specs.declared.parts.Block.TheVariants as blocks
+use Rattle.gw_object.specs.Limits.{most_parameters, most_streams}
+use Rattle.gw_object.specs.declared.blocks.Operand.{Operand}
+use Rattle.gw_object.specs.declared.blocks.Operand.TheVariants.{Constant, Parameter, Attribute, OfEntity, Random, Procedure}
+use Rattle.gw_object.specs.declared.blocks.Block.{Block}
+use Rattle.gw_object.specs.declared.blocks.Block.TheVariants as blocks
 use Rattle.gw_fields.specs.Fields.{Field, behind, byte, form_read, signed_number, nothing, optional}
-use Rattle.gw_blocks.specs.Grammar.{parameter_number, stream_number, attribute_byte, attributes, attribute, entity_attribute_byte, entity_attributes}
-use Rattle.gw_blocks.specs.Grammar.{NumberedFits, numbered_field, OperandFits, operand_spelling, operand_forms, operand_read, operand, mode_byte}
-use Rattle.gw_blocks.specs.Grammar.{modes, mode, AssignFits, assign, comparison_byte, comparisons, TestFits, test_operands, condition_byte}
-use Rattle.gw_blocks.specs.Grammar.{conditions, GateFits, gate, CallFits, call, LoopFits, countdown, SplitFits, split, set_size, order_byte, orders}
-use Rattle.gw_blocks.specs.Grammar.{LinkFits, link, UnlinkFits, unlink, action_byte, actions, LogicFits, logic, SaveFits, save, PriorityFits}
-use Rattle.gw_blocks.specs.Grammar.{priority, PlusFits, plus, SpreadFits, spread, GenerateFits, generate, entity_number, procedure_number, UnitsFit}
-use Rattle.gw_blocks.specs.Grammar.{units, block_number, FractionFits, fraction, BothFits, choice, has_choices, block_spelling, tag_form, block_forms}
-use Rattle.gw_blocks.specs.Grammar.{forms_where, block_read, block}
+use Rattle.gw_object.specs.BlockGrammar.{parameter_number, stream_number, attribute_byte, attributes, attribute, entity_attribute_byte, entity_attributes, NumberedFits, numbered_field, OperandFits, operand_spelling, operand_forms, operand_read, operand, mode_byte, modes, mode, AssignFits, assign, comparison_byte, comparisons, TestFits, test_operands, condition_byte, conditions, GateFits, gate, CallFits, call, LoopFits, countdown, SplitFits, split, set_size, order_byte, orders, LinkFits, link, UnlinkFits, unlink, action_byte, actions, LogicFits, logic, SaveFits, save, PriorityFits, priority, PlusFits, plus, SpreadFits, spread, GenerateFits, generate, entity_number, procedure_number, UnitsFit, units, block_number, FractionFits, fraction, BothFits, choice, has_choices, block_spelling, tag_form, block_forms, forms_where, block_read, block}
 use Rattle.gw_field_bytes.proofs.OneOf.{one_of_exact, flag_exact}
 use Rattle.gw_field_bytes.proofs.Exact.{ReadsBack, ◌also◌, tag_reads_back, IsExactForm, AreExactForms, behind_exact, by_tag_exact, IsExact}
 use Rattle.gw_field_bytes.proofs.Exact.{byte_exact, wide16, wide32, wide64, number_exact, signed_exact, made_exact, both_exact, fitting_exact}

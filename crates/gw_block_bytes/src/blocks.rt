@@ -3,17 +3,17 @@
 
 ghost use Rattle.std.specs.Prelude.{◌↔◌, IsTrue};
 ghost use Rattle.std.specs.List.{All};
-ghost use Rattle.gw_blocks.specs.Grammar.{GenerateFits, block, BlockFits};
+ghost use Rattle.gw_object.specs.BlockGrammar.{GenerateFits, block, BlockFits};
 
 use crate::BlockFormat;
 use crate::operands::*;
-use gw_blocks::{
-    Assign, Block, Call, Fraction, Gate, Generate, Link, Logic, Loop, Operand, Plus, Priority,
-    Save, Split, Spread, Test, Units, Unlink,
-};
 use gw_field_bytes::{Receiver, Spelled, put_behind};
 use gw_fields::codes::TAG;
 use gw_fields::{ReadError, fault};
+use gw_object::{
+    Assign, Block, Call, Fraction, Gate, Generate, Link, Logic, Loop, Operand, Plus, Priority,
+    Save, Split, Spread, Test, Units, Unlink,
+};
 use std::alloc::Global;
 
 impl Spelled<BlockFormat> for Block {
@@ -86,7 +86,7 @@ impl Spelled<BlockFormat> for Block {
         }
     }
 
-    #[tactic(auto, unfolding(gw_blocks::specs::Grammar::block_read))]
+    #[tactic(auto, unfolding(gw_object::specs::BlockGrammar::block_read))]
     fn read(alloc: Global, bytes: &[u8]) -> Result<(Block, &[u8]), ReadError> {
         let (tag, rest) = u8::read(alloc, bytes)?;
         match tag {

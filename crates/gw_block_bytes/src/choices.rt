@@ -1,13 +1,11 @@
 //! What operands choose from: the values for each of which a byte stands, in the order of their bytes.
 
 ghost use Rattle.std.specs.Prelude.{◌≡◌};
-ghost use Rattle.gw_blocks.specs.Grammar.{attribute_byte, attributes, entity_attribute_byte, entity_attributes};
-ghost use Rattle.gw_blocks.specs.Grammar.{mode_byte, modes, comparison_byte, comparisons, condition_byte, conditions};
-ghost use Rattle.gw_blocks.specs.Grammar.{action_byte, actions, order_byte, orders};
+ghost use Rattle.gw_object.specs.BlockGrammar.{action_byte, actions, attribute_byte, attributes, comparison_byte, comparisons, condition_byte, conditions, entity_attribute_byte, entity_attributes, mode_byte, modes, order_byte, orders};
 
 use crate::BlockFormat;
-use gw_blocks::{Attribute, Comparison, Condition, EntityAttribute, LinkOrder, Mode, SwitchAction};
 use gw_field_bytes::OneByte;
+use gw_object::{Attribute, Comparison, Condition, EntityAttribute, LinkOrder, Mode, SwitchAction};
 
 impl OneByte<BlockFormat> for Attribute {
     ghost byte_of = { attribute_byte };

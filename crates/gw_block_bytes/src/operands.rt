@@ -1,15 +1,15 @@
 //! Operands, in bytes and against the rules of the object format.
 
 ghost use Rattle.std.specs.Prelude.{◌≡◌, ◌↔◌, IsTrue};
-ghost use Rattle.gw_blocks.specs.Grammar.{parameter_number, parameter_above, stream_number, numbered_field, operand, OperandFits, spread, SpreadFits, units};
+ghost use Rattle.gw_object.specs.BlockGrammar.{parameter_number, parameter_above, stream_number, numbered_field, operand, OperandFits, spread, SpreadFits, units};
 ghost use Rattle.gw_fields.specs.Fields.{optional};
 ghost use Rattle.gw_fields.specs.Answers.{Gives};
 
 use crate::BlockFormat;
-use gw_blocks::{Attribute, MOST_PARAMETERS, MOST_STREAMS, Numbered, Operand, Spread, Units};
 use gw_field_bytes::{Receiver, Spelled, put_behind, read_ranged_u8};
 use gw_fields::codes::{NOT_CANONICAL, TAG};
 use gw_fields::{ReadError, fault};
+use gw_object::{Attribute, MOST_PARAMETERS, MOST_STREAMS, Numbered, Operand, Spread, Units};
 use std::alloc::Global;
 
 /// Whether this is the number of a parameter.
@@ -94,7 +94,7 @@ impl Spelled<BlockFormat> for Operand {
         }
     }
 
-    #[tactic(auto, unfolding(gw_blocks::specs::Grammar::operand_read))]
+    #[tactic(auto, unfolding(gw_object::specs::BlockGrammar::operand_read))]
     fn read(alloc: Global, bytes: &[u8]) -> Result<(Operand, &[u8]), ReadError> {
         let (tag, rest) = u8::read(alloc, bytes)?;
         match tag {

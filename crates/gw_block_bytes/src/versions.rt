@@ -2,15 +2,15 @@
 
 ghost use Rattle.std.specs.Prelude.{◌≡◌, ◌↔◌, IsTrue};
 ghost use Rattle.std.specs.List.{All};
-ghost use Rattle.gw_blocks.specs.Grammar.{IsOfVersion, block, choice};
-ghost use Rattle.gw_blocks.specs.Grammar as model;
+ghost use Rattle.gw_object.specs.BlockGrammar.{IsOfVersion, block, choice};
+ghost use Rattle.gw_object.specs.BlockGrammar as model;
 ghost use Rattle.gw_fields.specs.Fields.{list_of, plain};
 ghost use Rattle.gw_fields.specs.Answers.{Gives};
 
 use crate::BlockFormat;
-use gw_blocks::{Block, Both};
 use gw_field_bytes::{Elements, Front, Plain, Reading, Spelled, read_listed};
 use gw_fields::ReadError;
+use gw_object::{Block, Both};
 use std::alloc::Global;
 
 /// The tag of a TRANSFER in both mode.
@@ -32,7 +32,7 @@ fn read_choice(alloc: Global, bytes: &[u8]) -> Result<(Both, &[u8]), ReadError>
 }
 
 /// A block of a version.
-#[tactic(auto, unfolding(gw_blocks::specs::Grammar::block_read))]
+#[tactic(auto, unfolding(gw_object::specs::BlockGrammar::block_read))]
 pub fn read_block(alloc: Global, version: u16, bytes: &[u8]) -> Result<(Block, &[u8]), ReadError>
     ensures { Gives (λ x. (x.0, x.1.now)) result ((block version).read bytes.now) }
 {
@@ -58,7 +58,7 @@ impl Elements for WithChoices {
 }
 
 /// A count of blocks of a version, up to a limit, and as many blocks.
-#[tactic(auto, unfolding(gw_blocks::specs::Grammar::block_read))]
+#[tactic(auto, unfolding(gw_object::specs::BlockGrammar::block_read))]
 pub fn read_blocks(
     alloc: Global,
     version: u16,

@@ -5,11 +5,11 @@ use crate::rows::chain_place;
 use crate::stop::Stop;
 use crate::words::{number, number_in, number_u8, number_u16, number_u32, place};
 use gw_block_bytes::read_block;
-use gw_blocks::{Block, Units};
-use gw_code::Procedure;
 use gw_code_bytes::CodeFormat;
 use gw_field_bytes::Spelled;
-use gw_object::{Entity, Items, Parts, ReturnRow, TableKind, TableParameter, TableState};
+use gw_object::{
+    Block, Entity, Items, Parts, Procedure, ReturnRow, TableKind, TableParameter, TableState, Units,
+};
 use std::alloc::{AllocError, Global};
 use std::mem;
 

@@ -2,8 +2,9 @@
 
 use crate::stop::Stop;
 use crate::words::{number_in, number_u16};
-use gw_blocks::Units;
-use gw_object::{Entity, Kind, Object, Parts, ReturnRow, TableKind, TableParameter, TableState};
+use gw_object::{
+    Entity, Kind, Object, Parts, ReturnRow, TableKind, TableParameter, TableState, Units,
+};
 use std::alloc::{AllocError, Global};
 
 /// Appends a text and a number.

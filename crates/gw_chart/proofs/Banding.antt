@@ -9,8 +9,8 @@ use Rattle.std.proofs.lemmas.List.{length-map}
 use Rattle.gw_object.specs.declared.parts.Entity.{Entity}
 use Rattle.gw_step.specs.State.{State}
 use Rattle.gw_step.specs.Job.{Job, Alone}
-use Rattle.gw_model_jobs.specs.Running.{AreStillAt, IsStillAt, IsOver}
-use Rattle.gw_model_jobs.proofs.Lasting.{still_on, still_later}
+use Rattle.gw_answers.specs.Running.{AreStillAt, IsStillAt, IsOver}
+use Rattle.gw_answers.proofs.Lasting.{still_on, still_later}
 use Rattle.gw_chart.specs.declared.bands.Band.{Band}
 use Rattle.gw_chart.specs.Contents.{contents_from, value_in}
 use Rattle.gw_chart.specs.Bands.{band_of, band_in, widen, widened_from}

@@ -7,8 +7,8 @@ use Rattle.std.proofs.lemmas.Int.{ints}
 use Rattle.gw_step.specs.State.{State}
 use Rattle.gw_step.specs.Job.{Job, Alone, IsFinal, start_of}
 use Rattle.gw_step.proofs.Rests.{start_steps}
-use Rattle.gw_model_jobs.specs.Running.{AreStillAt, IsOver}
-use Rattle.gw_model_jobs.proofs.Lasting.{still_none, still_on}
+use Rattle.gw_answers.specs.Running.{AreStillAt, IsOver}
+use Rattle.gw_answers.proofs.Lasting.{still_none, still_on}
 use Rattle.gw_answers.proofs.Endings.{one_ending, final_has_no_step}
 use Rattle.gw_chart.specs.Contents.{contents_from}
 use Rattle.gw_chart.specs.Charts.{EndsAt}

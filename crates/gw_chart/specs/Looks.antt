@@ -2,7 +2,7 @@
 use Rattle.std.specs.Prelude.{◌≡◌, ℤ, ◌≤ℤ◌, List, length}
 use Rattle.gw_step.specs.State.{State}
 use Rattle.gw_step.specs.Job.{Job, Alone}
-use Rattle.gw_model_jobs.specs.Running.{AreStillAt, IsOver}
+use Rattle.gw_answers.specs.Running.{AreStillAt, IsOver}
 use Rattle.gw_chart.specs.declared.bands.Band.{Band}
 use Rattle.gw_chart.specs.Samples.{AreBands}
 

@@ -1,7 +1,7 @@
 //! The least and the greatest of what is in entities for a while.
 
 ghost use Rattle.std.specs.Prelude.{◌≡◌, ◌≤◌, ◌<◌, length, map, IfOk, OnOk};
-ghost use Rattle.gw_model_jobs.specs.Running.{AreStillAt};
+ghost use Rattle.gw_answers.specs.Running.{AreStillAt};
 ghost use Rattle.gw_chart.specs.Bands as model;
 ghost use Rattle.gw_chart.specs.Contents.{content_of as content_in};
 

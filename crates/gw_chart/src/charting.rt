@@ -3,7 +3,7 @@
 ghost use Rattle.std.specs.Prelude.{◌≡◌, Some, IfOk};
 ghost use Rattle.gw_step.specs.Job.{Alone, IsFinal, start_of};
 ghost use Rattle.gw_answers.specs.Status.{end_status as ended_status};
-ghost use Rattle.gw_model_jobs.specs.ModelJobs.{AnswersModel};
+ghost use Rattle.gw_answers.specs.ModelJobs.{AnswersModel};
 ghost use Rattle.gw_chart.specs.Samples.{AreSamples, AreAllBands};
 ghost use Rattle.gw_chart.specs.Windows.{clip as clipped_to};
 ghost use Rattle.gw_chart.specs.Charts.{EndsAt, IsChart, IsSheet, Shows};
@@ -13,8 +13,7 @@ use crate::samples::{Samples, take_samples};
 use crate::sheet::put_sheet;
 use crate::window::{Window, clip};
 use gw_answers::status::ENDED;
-use gw_answers::{Answer, BUDGET, NoJob, answer_refusal, run_to_end};
-use gw_model_jobs::{Time, spec_of_text};
+use gw_answers::{Answer, BUDGET, NoJob, Time, answer_refusal, run_to_end, spec_of_text};
 use gw_object::Memory;
 use gw_scan::{Sim, Spec};
 use std::alloc::Global;

@@ -2,15 +2,14 @@
 
 ghost use Rattle.std.specs.Prelude.{◌≡◌, ◌≤◌, ◌≤ℤ◌, Some, IfOk, OnOk};
 ghost use Rattle.gw_step.specs.Job.{IsReached, start_of};
-ghost use Rattle.gw_model_jobs.specs.Running.{AreStillAt, IsOver};
+ghost use Rattle.gw_answers.specs.Running.{AreStillAt, IsOver};
 ghost use Rattle.gw_chart.specs.Samples as model;
 ghost use Rattle.gw_chart.specs.Looks.{HasLooked};
 
 use crate::bands::{Band, bands_now, widen};
 use crate::contents::contents;
 use crate::window::{Window, moment};
-use gw_answers::BUDGET;
-use gw_model_jobs::{Time, is_over, run_past};
+use gw_answers::{BUDGET, Time, is_over, run_past};
 use gw_object::{Items, Memory};
 use gw_scan::Sim;
 use std::alloc::Global;

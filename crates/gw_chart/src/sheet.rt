@@ -14,7 +14,7 @@ use crate::plot::{Plot, line_of};
 use crate::samples::Samples;
 use crate::window::{Window, moment};
 use csv::{Terminator, WriterBuilder};
-use gw_model_jobs::Time;
+use gw_answers::Time;
 use gw_object::{Entity, Memory};
 use gw_scan::Sim;
 use itoa::Buffer;

@@ -3,8 +3,8 @@
 ghost use Rattle.std.specs.Prelude.{◌≡◌, ◌≤◌, ◌<◌};
 ghost use Rattle.gw_chart.specs.Windows as model;
 
+use gw_answers::Time;
 use gw_drawing::numbers::part_of_length;
-use gw_model_jobs::Time;
 
 /// From which clock to which a run is shown, both in clock units; of a run that ends before, up to its end.
 #[derive(Clone, Copy, PartialEq, Eq)]

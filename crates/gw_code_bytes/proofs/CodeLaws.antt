@@ -6,23 +6,20 @@ use Rattle.std.proofs.Math.Bool.{and-false}
 use Rattle.gw_num.specs.declared.operators.Binary.TheVariants.{Power, Multiply, Divide, Remainder, Add, Subtract, Greater, GreaterOrEqual, Less}
 use Rattle.gw_num.specs.declared.operators.Binary.TheVariants.{LessOrEqual, Equal, NotEqual, And, Or}
 use Rattle.gw_num.specs.declared.operators.Unary.TheVariants.{Negate, Not}
-use Rattle.gw_blocks.specs.Limits.{most_parameters}
-use Rattle.gw_blocks.specs.Grammar.{parameter_number, attribute, numbered_field, tag_form}
+use Rattle.gw_object.specs.Limits.{most_parameters, most_instructions, most_backs, most_locals}
+use Rattle.gw_object.specs.BlockGrammar.{parameter_number, attribute, numbered_field, tag_form}
 use Rattle.gw_block_bytes.proofs.BlockLaws.{parameter_number_exact, attribute_exact, numbered_exact}
-use Rattle.gw_code.specs.Limits.{most_instructions, most_backs, most_locals}
-use Rattle.gw_code.specs.declared.parts.Sna.{Sna}
-use Rattle.gw_code.specs.declared.parts.Sna.TheVariants.{Parameter, Attribute, OfEntity}
-use Rattle.gw_code.specs.declared.parts.Instruction.{Instruction}
-use Rattle.gw_code.specs.declared.parts.Instruction.TheVariants.{Push, Get, Set, Value, Binary, Unary, Pop, Jump, JumpIfZero, Back, Call, Return}
-use Rattle.gw_code.specs.declared.parts.Procedure.{Procedure}
+use Rattle.gw_object.specs.declared.code.Sna.{Sna}
+use Rattle.gw_object.specs.declared.code.Sna.TheVariants.{Parameter, Attribute, OfEntity}
+use Rattle.gw_object.specs.declared.code.Instruction.{Instruction}
+use Rattle.gw_object.specs.declared.code.Instruction.TheVariants.{Push, Get, Set, Value, Binary, Unary, Pop, Jump, JumpIfZero, Back, Call, Return}
+use Rattle.gw_object.specs.declared.code.Procedure.{Procedure}
 use Rattle.gw_fields.specs.Codes as codes
 use Rattle.gw_fields.specs.declared.error.Bad.{Bad}
 use Rattle.gw_fields.specs.Fields.{bad, byte, number, signed_number, nothing, form_read, by_tag, ElementsFit}
-use Rattle.gw_code.specs.Grammar.{SnaFits, sna_spelling, sna_forms, sna_read, sna, BackFits, jump_back, InstructionFits, instruction_spelling}
-use Rattle.gw_code.specs.Grammar.{instruction_forms, instruction_read, instruction, is_back, backs, begins_with_back, next_instruction, need, counts}
-use Rattle.gw_code.specs.Grammar.{ProcedureFits, NeedsAscend, procedure}
+use Rattle.gw_object.specs.CodeGrammar.{SnaFits, sna_spelling, sna_forms, sna_read, sna, BackFits, jump_back, InstructionFits, instruction_spelling, instruction_forms, instruction_read, instruction, is_back, backs, begins_with_back, next_instruction, need, counts, ProcedureFits, NeedsAscend, procedure}
 use Rattle.gw_field_bytes.proofs.AboveLast.{above_last_exact, above_last_fit, above_last_ascends}
-use Rattle.gw_code.proofs.Backs.{backs_within, code_fits, begins_as_it_is, front_of_back}
+use Rattle.gw_object.proofs.Backs.{backs_within, code_fits, begins_as_it_is, front_of_back}
 use Rattle.gw_field_bytes.proofs.Exact.{IsBytes, Takes, CutsFronts, chosen, err_is, not_both, ReadsBack, ◌also◌, tag_reads_back, IsExactForm}
 use Rattle.gw_field_bytes.proofs.Exact.{AreExactForms, behind_exact, by_tag_exact, IsExact, byte_exact, wide16, wide32, wide64}
 use Rattle.gw_field_bytes.proofs.ExactLists.{IsExactElement}

@@ -1,18 +1,17 @@
 //! Instructions, in bytes and against the rules of the object format.
 
 ghost use Rattle.std.specs.Prelude.{◌≡◌, ◌<◌, ◌⊎◌, [], ◌∷◌, MatchOption};
-ghost use Rattle.gw_code.specs.Grammar as grammar;
-ghost use Rattle.gw_code.specs.Grammar.{sna, instruction, instruction_spelling, backs, next_instruction};
+ghost use Rattle.gw_object.specs.CodeGrammar as grammar;
+ghost use Rattle.gw_object.specs.CodeGrammar.{sna, instruction, instruction_spelling, backs, next_instruction};
 ghost use Rattle.gw_code_bytes.specs.Operators.{StandsFor};
 
 use crate::CodeFormat;
 use gw_block_bytes::read_parameter_number;
-use gw_blocks::{Attribute, Numbered};
-use gw_code::{Back, Instruction, MOST_BACKS, Sna};
 use gw_field_bytes::{Elements, Front, Reading, Receiver, Spelled, put_behind};
 use gw_fields::codes::{LIMIT, TAG};
 use gw_fields::{ReadError, fault};
 use gw_num::{Binary, Unary};
+use gw_object::{Attribute, Back, Instruction, MOST_BACKS, Numbered, Sna};
 use std::alloc::Global;
 
 /// The tag of a BACK.
@@ -31,7 +30,7 @@ impl Spelled<CodeFormat> for Sna {
         }
     }
 
-    #[tactic(auto, unfolding(gw_code::specs::Grammar::sna_read))]
+    #[tactic(auto, unfolding(gw_object::specs::CodeGrammar::sna_read))]
     fn read(alloc: Global, bytes: &[u8]) -> Result<(Sna, &[u8]), ReadError> {
         let (tag, rest) = u8::read(alloc, bytes)?;
         match tag {
@@ -85,7 +84,7 @@ fn unary_byte(operator: Unary) -> u8
 }
 
 /// The operator for which a tag stands, as an instruction; `None` where it stands for none: theirs are 4 to 19.
-#[tactic(auto, unfolding(gw_code::specs::Grammar::instruction_read))]
+#[tactic(auto, unfolding(gw_object::specs::CodeGrammar::instruction_read))]
 fn operator_of(tag: u8) -> Option<Instruction>
     ensures { MatchOption result ((tag < 4) ⊎ (19 < tag)) (StandsFor tag) }
 {
@@ -132,7 +131,7 @@ impl Spelled<CodeFormat> for Instruction {
         }
     }
 
-    #[tactic(auto, unfolding(gw_code::specs::Grammar::instruction_read))]
+    #[tactic(auto, unfolding(gw_object::specs::CodeGrammar::instruction_read))]
     fn read(alloc: Global, bytes: &[u8]) -> Result<(Instruction, &[u8]), ReadError> {
         let (tag, rest) = u8::read(alloc, bytes)?;
         match tag {

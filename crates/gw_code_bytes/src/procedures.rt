@@ -2,18 +2,19 @@
 
 ghost use Rattle.std.specs.Prelude.{◌↔◌, IsTrue};
 ghost use Rattle.std.specs.List.{All};
-ghost use Rattle.gw_code.specs.Grammar.{InstructionFits, SnaFits, need, procedure, ProcedureFits, NeedsAscend};
+ghost use Rattle.gw_object.specs.CodeGrammar.{InstructionFits, SnaFits, need, procedure, ProcedureFits, NeedsAscend};
 
 use crate::CodeFormat;
 use crate::instructions::*;
 use gw_block_bytes::{is_parameter, read_parameter_above};
-use gw_blocks::MOST_PARAMETERS;
-use gw_code::{Instruction, MOST_BACKS, MOST_INSTRUCTIONS, MOST_LOCALS, Procedure, Sna};
 use gw_field_bytes::{
     Elements, Front, Reading, Receiver, Spelled, keys_ascend, put_listed, read_listed,
     read_ranged_u8,
 };
 use gw_fields::{Items, ReadError};
+use gw_object::{
+    Instruction, MOST_BACKS, MOST_INSTRUCTIONS, MOST_LOCALS, MOST_PARAMETERS, Procedure, Sna,
+};
 use std::alloc::Global;
 
 /// The parameters that a procedure needs, ascending.
@@ -34,14 +35,14 @@ impl Spelled<CodeFormat> for Procedure {
 
     ghost reading = { procedure.read };
 
-    #[tactic(auto, using(gw_field_bytes::proofs::Receiving::joining), unfolding(gw_code::specs::Grammar::procedure))]
+    #[tactic(auto, using(gw_field_bytes::proofs::Receiving::joining), unfolding(gw_object::specs::CodeGrammar::procedure))]
     fn put<R: Receiver>(&self, to: &mut R) -> Result<(), R::Refusal> {
         (self.arguments, self.locals).put(to)?;
         put_listed(to, self.needs.as_slice())?;
         put_listed(to, self.code.as_slice())
     }
 
-    #[tactic(auto, unfolding(gw_code::specs::Grammar::procedure))]
+    #[tactic(auto, unfolding(gw_object::specs::CodeGrammar::procedure))]
     fn read(alloc: Global, bytes: &[u8]) -> Result<(Procedure, &[u8]), ReadError> {
         let (arguments, rest) = u8::read(alloc, bytes)?;
         let (locals, rest) = read_ranged_u8(alloc, rest, arguments, MOST_LOCALS)?;

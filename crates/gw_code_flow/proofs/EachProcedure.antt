@@ -1,12 +1,12 @@
 -- The checks of one procedure after the other.
 use Rattle.std.proofs.Common.{◌≡◌, ℕ, suc, ◌+◌, ◌<◌, ◌≤◌, List, [], ◌∷◌, ◌++◌, length, drop, get_or, Option, Some, None, sym, ap, ◌∙◌, arith, drop-cons}
 use Rattle.std.proofs.lemmas.List.{drop_all}
-use Rattle.gw_code.specs.declared.parts.Procedure.{Procedure}
+use Rattle.gw_object.specs.declared.code.Procedure.{Procedure}
 use Rattle.gw_object.specs.declared.fault.Fault.{Fault}
 use Rattle.gw_object.specs.declared.parts.Parts.{Parts}
 use Rattle.gw_rules.specs.Checks.{first_broken}
 use Rattle.gw_rules.proofs.Broken.{first, first_broken-append}
-use Rattle.gw_operands.specs.Code.{cost_of_code}
+use Rattle.gw_rules.specs.Code.{cost_of_code}
 use Rattle.gw_rules.specs.PlusChecks.{procedure_checks, checks_from}
 
 module _ (p : Parts) (costs : List ℕ) (prs : List Procedure) (n : ℕ) (pr : Procedure) (within : n < length prs) (here : pr ≡ get_or prs n pr) where

@@ -2,9 +2,9 @@
 
 ghost use Rattle.std.specs.Prelude.{◌≡◌, ◌<◌, ◌≤◌, length, All, Some, None, [], ◌∷◌, IfOk, OnOk};
 ghost use Rattle.gw_num.specs.Table.{at};
-ghost use Rattle.gw_code.specs.Grammar.{ProcedureFits};
+ghost use Rattle.gw_object.specs.CodeGrammar.{ProcedureFits};
 ghost use Rattle.gw_rules.specs.Checks.{Finds};
-ghost use Rattle.gw_operands.specs.Code.{most_values, cost_of_code};
+ghost use Rattle.gw_rules.specs.Code.{most_values, cost_of_code};
 ghost use Rattle.gw_rules.specs.PlusChecks as model;
 ghost use Rattle.gw_code_flow.specs.AtInstruction as at_instruction;
 ghost use Rattle.gw_rules.specs.PlusChecks.{procedure_checks, cost_of};
@@ -14,8 +14,9 @@ use crate::heights::{Heights, fits_ahead, height_at, mark_ahead};
 use crate::instructions::{called_in, calls_lower, finds_values, height_after, leads_well};
 use crate::parameters::asks_for_needs;
 use arrayvec::ArrayVec;
-use gw_code::{Instruction, MOST_INSTRUCTIONS, Procedure};
-use gw_object::{Fault, MOST_PROCEDURES, Object, Parts, Place};
+use gw_object::{
+    Fault, Instruction, MOST_INSTRUCTIONS, MOST_PROCEDURES, Object, Parts, Place, Procedure,
+};
 use gw_rules::check;
 use gw_rules::plus_codes::*;
 

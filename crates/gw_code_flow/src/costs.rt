@@ -2,12 +2,11 @@
 
 ghost use Rattle.std.specs.Prelude.{◌≡◌, ◌<◌, ◌≤◌, ◌+◌, ◌*◌, ◌^◌, length, drop, IfSome, IfNone};
 ghost use Rattle.gw_num.specs.Table.{at};
-ghost use Rattle.gw_operands.specs.Code as model;
+ghost use Rattle.gw_rules.specs.Code as model;
 ghost use Rattle.gw_rules.specs.PlusChecks.{IsTooCostly, MayCost};
 
 use crate::instructions::called_in;
-use gw_code::Instruction;
-use gw_object::Entity;
+use gw_object::{Entity, Instruction};
 
 /// The most that a procedure may cost, in instructions.
 const GREATEST_COST: u64 = 1_000_000_000;

@@ -2,10 +2,10 @@
 
 ghost use Rattle.std.specs.Prelude.{◌≡◌, ◌<◌, ◌≤◌, length, Some, None, true};
 ghost use Rattle.gw_num.specs.Table.{at, put};
-ghost use Rattle.gw_operands.specs.Code.{leads_well, targets};
+ghost use Rattle.gw_rules.specs.Code.{leads_well, targets};
 ghost use Rattle.gw_rules.specs.PlusChecks as model;
 
-use gw_code::{Instruction, MOST_INSTRUCTIONS};
+use gw_object::{Instruction, MOST_INSTRUCTIONS};
 
 /// The most values on the stack of an activation.
 const MOST_VALUES: u16 = 64;

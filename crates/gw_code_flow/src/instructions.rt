@@ -2,14 +2,12 @@
 
 ghost use Rattle.std.specs.Prelude.{◌≡◌, ◌≤◌, nat_le};
 ghost use Rattle.std.specs.Option.{option_copied};
-ghost use Rattle.gw_operands.specs.Sources.{procedure_named};
-ghost use Rattle.gw_operands.specs.Code as model;
+ghost use Rattle.gw_rules.specs.Sources.{procedure_named};
+ghost use Rattle.gw_rules.specs.Code as model;
 ghost use Rattle.gw_rules.specs.PlusChecks.{height_after};
 
-use gw_blocks::Operand;
-use gw_code::{Instruction, Procedure};
-use gw_object::{Entity, Parts};
-use gw_operands::{as_operand, procedure_at, source_of};
+use gw_object::{Entity, Instruction, Operand, Parts, Procedure};
+use gw_rules::{as_operand, procedure_at, source_of};
 
 /// How many arguments a procedure takes; none where it isn't there.
 fn arguments_of(procedure: Option<&Procedure>) -> u8

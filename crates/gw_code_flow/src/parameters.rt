@@ -2,11 +2,10 @@
 
 ghost use Rattle.std.specs.Prelude.{◌≡◌};
 ghost use Rattle.std.specs.List.{list_all};
-ghost use Rattle.gw_operands.specs.Code as model;
+ghost use Rattle.gw_rules.specs.Code as model;
 
-use gw_code::Instruction;
-use gw_object::Parts;
-use gw_operands::asks_for;
+use gw_object::{Instruction, Parts};
+use gw_rules::asks_for;
 
 /// Whether a number is among these.
 fn is_among(numbers: &[u8], number: u8) -> bool

@@ -1,10 +1,10 @@
 -- No expression jumps back.
 use Rattle.std.proofs.Common.{◌≡◌, ℕ, ◌+◌, Bool, true, false, if◌then◌else◌, List, [], ◌∷◌, ◌++◌, Option, Some, None, refl, arith}
 use Rattle.std.specs.Prelude.{string_bytes}
-use Rattle.gw_code.specs.Grammar.{is_back, backs}
-use Rattle.gw_code.specs.declared.parts.Sna.{Sna}
-use Rattle.gw_code.specs.declared.parts.Instruction.{Instruction}
-use Rattle.gw_code.specs.declared.parts.Instruction.TheVariants.{Binary, Unary, Return}
+use Rattle.gw_object.specs.CodeGrammar.{is_back, backs}
+use Rattle.gw_object.specs.declared.code.Sna.{Sna}
+use Rattle.gw_object.specs.declared.code.Instruction.{Instruction}
+use Rattle.gw_object.specs.declared.code.Instruction.TheVariants.{Binary, Unary, Return}
 use Rattle.gw_text_expressions.specs.declared.model.Expression.{Expression, Row_of-Expression, end_of-Expression, more_of-Expression}
 use Rattle.gw_text_expressions.specs.declared.model.Expression.TheVariants.{Whole, Name, Sna as Attribute, Parentheses', Call', Unary', Binary'}
 use Rattle.gw_compile.specs.declared.numbering.Callee.{Callee}

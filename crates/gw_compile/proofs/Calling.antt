@@ -4,21 +4,21 @@ use Rattle.std.specs.Prelude.{slice_get}
 use Rattle.std.proofs.lemmas.Option.{slice_get_within, get_or_from_slice_get}
 use Rattle.std.proofs.lemmas.List.Elements.{All-get_or}
 use Rattle.gw_num.specs.Table.{at}
-use Rattle.gw_code.specs.declared.parts.Sna.{Sna}
-use Rattle.gw_code.specs.declared.parts.Instruction.TheVariants.{Value}
-use Rattle.gw_operands.specs.Sources.{source_of, as_operand}
+use Rattle.gw_object.specs.declared.code.Sna.{Sna}
+use Rattle.gw_object.specs.declared.code.Instruction.TheVariants.{Value}
+use Rattle.gw_rules.specs.Sources.{source_of, as_operand}
 use Rattle.gw_rules.proofs.PlusReading.{MayRead, may_read}
-use Rattle.gw_code.specs.declared.parts.Instruction.{Instruction}
-use Rattle.gw_code.specs.declared.parts.Procedure.{Procedure}
+use Rattle.gw_object.specs.declared.code.Instruction.{Instruction}
+use Rattle.gw_object.specs.declared.code.Procedure.{Procedure}
 use Rattle.gw_object.specs.declared.parts.Parts.{Parts}
 use Rattle.gw_object.specs.Grammar.{HasSpelling}
 use Rattle.gw_rules.specs.Pass.{KindsPass}
 use Rattle.gw_rules.specs.KindsLaws.{InstructionHolds}
-use Rattle.gw_operands.specs.declared.ends.PlusEnd.{PlusEnd}
-use Rattle.gw_operands.specs.Environment.{Environment}
-use Rattle.gw_operands.specs.Code.{procedure_at, asks_for, called_in, calls_lower, costs_of}
+use Rattle.gw_rules.specs.declared.ends.PlusEnd.{PlusEnd}
+use Rattle.gw_rules.specs.Environment.{Environment}
+use Rattle.gw_rules.specs.Code.{procedure_at, asks_for, called_in, calls_lower, costs_of}
 use Rattle.gw_rules.specs.PlusChecks.{PlusPasses}
-use Rattle.gw_operands.specs.Meaning.{Derives, opening_frame}
+use Rattle.gw_rules.specs.Meaning.{Derives, opening_frame}
 use Rattle.gw_rules.specs.PlusLaws.{HasSet, MayBegin}
 use Rattle.gw_rules.proofs.PlusRules.{checked}
 use Rattle.gw_rules.proofs.PlusSteps.{among_more}

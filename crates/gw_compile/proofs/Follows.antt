@@ -8,24 +8,23 @@ use Rattle.gw_num.specs.declared.operators.Binary.{Binary as BinaryOperator}
 use Rattle.gw_num.specs.declared.operators.Unary.{Unary as UnaryOperator}
 use Rattle.gw_num.specs.Operators.{binary_value, unary_value}
 use Rattle.gw_num.specs.Table.{at}
-use Rattle.gw_blocks.specs.declared.parts.Operand.{Operand}
-use Rattle.gw_blocks.specs.declared.parts.Operand.TheVariants.{Constant, Parameter, Attribute, OfEntity, Random, Procedure as ValueOf}
-use Rattle.gw_code.specs.declared.parts.Sna.{Sna}
-use Rattle.gw_code.specs.declared.parts.Instruction.{Instruction}
-use Rattle.gw_code.specs.declared.parts.Instruction.TheVariants.{Push, Get, Value, Binary, Unary, Call, Return}
-use Rattle.gw_code.specs.declared.parts.Procedure.{Procedure}
+use Rattle.gw_object.specs.declared.blocks.Operand.{Operand}
+use Rattle.gw_object.specs.declared.blocks.Operand.TheVariants.{Constant, Parameter, Attribute, OfEntity, Random, Procedure as ValueOf}
+use Rattle.gw_object.specs.declared.code.Sna.{Sna}
+use Rattle.gw_object.specs.declared.code.Instruction.{Instruction}
+use Rattle.gw_object.specs.declared.code.Instruction.TheVariants.{Push, Get, Value, Binary, Unary, Call, Return}
+use Rattle.gw_object.specs.declared.code.Procedure.{Procedure}
 use Rattle.gw_object.specs.declared.parts.Parts.{Parts}
 use Rattle.gw_object.specs.Grammar.{HasSpelling}
-use Rattle.gw_operands.specs.Sources.{source_of, as_operand}
+use Rattle.gw_rules.specs.Sources.{source_of, as_operand}
 use Rattle.gw_rules.specs.Pass.{KindsPass}
-use Rattle.gw_operands.specs.declared.ends.PlusEnd.{PlusEnd}
-use Rattle.gw_operands.specs.Environment.{Environment, attribute_value as own_value}
-use Rattle.gw_operands.specs.Code.{procedure_at, arguments_of, needs_of, most_values}
+use Rattle.gw_rules.specs.declared.ends.PlusEnd.{PlusEnd}
+use Rattle.gw_rules.specs.Environment.{Environment, attribute_value as own_value}
+use Rattle.gw_rules.specs.Code.{procedure_at, arguments_of, needs_of, most_values}
 use Rattle.gw_rules.specs.PlusChecks.{PlusPasses}
-use Rattle.gw_operands.specs.Results.{value_by_operand}
-use Rattle.gw_operands.specs.Meaning.{Taken, Frame, Next, Goes, Calls, Returns, Stuck, push_value, or_stuck, pop_value, calculate, calls_with}
-use Rattle.gw_operands.specs.Meaning.{reads_source, act, next, frame_of_locals, opening_frame, Derives}
-use Rattle.gw_operands.specs.Outcome.{outcome_of}
+use Rattle.gw_rules.specs.Results.{value_by_operand}
+use Rattle.gw_rules.specs.Meaning.{Taken, Frame, Next, Goes, Calls, Returns, Stuck, push_value, or_stuck, pop_value, calculate, calls_with, reads_source, act, next, frame_of_locals, opening_frame, Derives}
+use Rattle.gw_rules.specs.Outcome.{outcome_of}
 use Rattle.gw_rules.specs.PlusLaws.{HasSet, MayBegin}
 use Rattle.gw_rules.proofs.PlusReading.{MayRead}
 use Rattle.gw_rules.proofs.Outcomes.{Continues, Unrolled, unroll}

@@ -7,15 +7,15 @@ use Rattle.std.proofs.lemmas.Bool.{eqb-true, eq-eqb, ltb-true, or_right}
 use Rattle.std.proofs.lemmas.List.Elements.{All-nil, All-cons, All-head, All-tail}
 use Rattle.std.proofs.lemmas.List.Kept.{AllPairs-cons}
 use Rattle.std.proofs.lemmas.Bool.Decides.{nat_tests}
-use Rattle.gw_blocks.specs.declared.parts.Operand.{Operand}
-use Rattle.gw_code.specs.declared.parts.Instruction.{Instruction}
-use Rattle.gw_code.specs.declared.parts.Instruction.TheVariants.{Value}
-use Rattle.gw_code.specs.declared.parts.Procedure.{Procedure}
-use Rattle.gw_code.specs.declared.parts.Sna.{Sna}
-use Rattle.gw_code.specs.declared.parts.Sna.TheVariants as snas
+use Rattle.gw_object.specs.declared.blocks.Operand.{Operand}
+use Rattle.gw_object.specs.declared.code.Instruction.{Instruction}
+use Rattle.gw_object.specs.declared.code.Instruction.TheVariants.{Value}
+use Rattle.gw_object.specs.declared.code.Procedure.{Procedure}
+use Rattle.gw_object.specs.declared.code.Sna.{Sna}
+use Rattle.gw_object.specs.declared.code.Sna.TheVariants as snas
 use Rattle.gw_object.specs.declared.parts.Parts.{Parts}
-use Rattle.gw_operands.specs.Sources.{procedure_named}
-use Rattle.gw_operands.specs.Code.{procedure_at, needs_of, is_among, called_in, calls_lower, asked_by_source, asks_for}
+use Rattle.gw_rules.specs.Sources.{procedure_named}
+use Rattle.gw_rules.specs.Code.{procedure_at, needs_of, is_among, called_in, calls_lower, asked_by_source, asks_for}
 use Rattle.gw_compile.specs.Numbers.{Numbers}
 use Rattle.gw_compile.specs.Needs.{asked_by, asks, with_number, with_numbers, needs_with, needs_in}
 use Rattle.gw_compile.specs.Keeps.{GoesOnFrom, NeedsSuffice, NeedsWhatItAsks}

@@ -2,9 +2,9 @@
 use Rattle.std.proofs.Common.{◌≡◌, ℕ, ◌+◌, List, [], ◌∷◌, ◌++◌, length, Some, None, Bool, true, false, ◌&&◌, refl, sym, subst, All}
 use Rattle.std.specs.Prelude.{string_bytes, map}
 use Rattle.std.proofs.lemmas.List.Elements.{All-nil, All-cons, All-head, All-tail, All-append}
-use Rattle.gw_code.specs.declared.parts.Instruction.{Instruction}
-use Rattle.gw_code.specs.declared.parts.Instruction.TheVariants.{JumpIfZero}
-use Rattle.gw_code.specs.declared.parts.Procedure.{Procedure}
+use Rattle.gw_object.specs.declared.code.Instruction.{Instruction}
+use Rattle.gw_object.specs.declared.code.Instruction.TheVariants.{JumpIfZero}
+use Rattle.gw_object.specs.declared.code.Procedure.{Procedure}
 use Rattle.gw_text_plus.specs.declared.model.Procedure.{Procedure as TextProcedure}
 use Rattle.gw_text_plus.specs.declared.model.PlusStatement.{PlusStatement, Row_of-PlusStatement, end_of-PlusStatement, more_of-PlusStatement}
 use Rattle.gw_text_plus.specs.declared.model.PlusStatement.{Held-PlusStatement-If-2, None', Some'}

@@ -5,8 +5,8 @@ use Rattle.std.specs.Prelude.{string_bytes, slice_set, map}
 use Rattle.std.specs.Result.{IsErrAnd}
 use Rattle.std.proofs.lemmas.List.{append-nil, set_at, length-set}
 use mathlib.Core.Former.{Count}
-use Rattle.gw_code.specs.declared.parts.Instruction.{Instruction}
-use Rattle.gw_code.specs.declared.parts.Instruction.TheVariants.{Jump, JumpIfZero, Back}
+use Rattle.gw_object.specs.declared.code.Instruction.{Instruction}
+use Rattle.gw_object.specs.declared.code.Instruction.TheVariants.{Jump, JumpIfZero, Back}
 use Rattle.gw_text_expressions.specs.declared.model.Expression.{Expression}
 use Rattle.gw_text_plus.specs.declared.model.PlusStatement.{PlusStatement, Block, Block', If, Row_of-PlusStatement, end_of-PlusStatement}
 use Rattle.gw_text_plus.specs.declared.model.PlusStatement.{more_of-PlusStatement, Held-PlusStatement-If-2, None', Some', items-the_row-PlusStatement}
@@ -17,7 +17,7 @@ use Rattle.gw_compile.specs.declared.faults.CompileFault.TheVariants as faults
 use Rattle.gw_compile.specs.Numbers.{Numbers, Scope}
 use Rattle.gw_compile.specs.Code.{expression_code}
 use Rattle.gw_compile.specs.Unknown.{Blame, first_of, first_blame, Judges}
-use Rattle.gw_code.specs.Limits.{most_locals}
+use Rattle.gw_object.specs.Limits.{most_locals}
 use Rattle.gw_compile.proofs.Blaming.{judged_first, judged_second}
 use Rattle.gw_compile.specs.Statements.{Piece, IsWritten, target, turns, when, leap, leap_length, turn, no_piece, has_else, reached_piece}
 use Rattle.gw_compile.specs.Statements.{before_piece, piece, else_piece, pieces, sequence, if_without_else, if_with_else, while_piece}

@@ -1,10 +1,10 @@
 -- The attributes of a model text, in numbers.
 use Rattle.std.specs.Prelude.{ℕ, Option, Some, None, option_map, string_bytes}
-use Rattle.gw_blocks.specs.declared.parts.Attribute.TheVariants as own
-use Rattle.gw_blocks.specs.declared.parts.EntityAttribute.{EntityAttribute}
-use Rattle.gw_blocks.specs.declared.parts.EntityAttribute.TheVariants as attributes
-use Rattle.gw_code.specs.declared.parts.Sna.{Sna}
-use Rattle.gw_code.specs.declared.parts.Sna.TheVariants as snas
+use Rattle.gw_object.specs.declared.blocks.Attribute.TheVariants as own
+use Rattle.gw_object.specs.declared.blocks.EntityAttribute.{EntityAttribute}
+use Rattle.gw_object.specs.declared.blocks.EntityAttribute.TheVariants as attributes
+use Rattle.gw_object.specs.declared.code.Sna.{Sna}
+use Rattle.gw_object.specs.declared.code.Sna.TheVariants as snas
 use Rattle.gw_rules.specs.declared.entities.EntityKind.{EntityKind}
 use Rattle.gw_rules.specs.declared.entities.EntityKind.TheVariants as kinds
 use Rattle.gw_text_expressions.specs.declared.model.Sna.{Sna as TextSna}

@@ -1,9 +1,9 @@
 -- The code of an expression.
 use Rattle.std.specs.Prelude.{◌≡◌, List, [], ◌∷◌, ◌++◌, Option, option_map, option_to_list, string_bytes, Vec}
 use Rattle.std.specs.Global.{Global}
-use Rattle.gw_code.specs.declared.parts.Instruction.{Instruction}
-use Rattle.gw_code.specs.declared.parts.Sna.{Sna}
-use Rattle.gw_code.specs.declared.parts.Instruction.TheVariants.{Push, Get, Value, Binary, Unary, Call, Return}
+use Rattle.gw_object.specs.declared.code.Instruction.{Instruction}
+use Rattle.gw_object.specs.declared.code.Sna.{Sna}
+use Rattle.gw_object.specs.declared.code.Instruction.TheVariants.{Push, Get, Value, Binary, Unary, Call, Return}
 use Rattle.gw_text_expressions.specs.declared.model.Expression.{Expression, Row_of-Expression, end_of-Expression, more_of-Expression}
 use Rattle.gw_text_expressions.specs.declared.model.Expression.TheVariants.{Whole, Name, Sna as Attribute, Parentheses', Call', Unary', Binary'}
 use Rattle.gw_compile.specs.declared.numbering.Callee.{Callee}

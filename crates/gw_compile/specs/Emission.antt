@@ -3,8 +3,8 @@ use Rattle.std.specs.Prelude.{◌≡◌, ℕ, ◌+◌, List, [], ◌∷◌, ◌+
 use Rattle.std.specs.Global.{Global}
 use Rattle.std.specs.Borrow.{Bor}
 use Rattle.std.specs.List.{flat_map}
-use Rattle.gw_code.specs.declared.parts.Instruction.{Instruction}
-use Rattle.gw_code.specs.declared.parts.Instruction.TheVariants.{JumpIfZero}
+use Rattle.gw_object.specs.declared.code.Instruction.{Instruction}
+use Rattle.gw_object.specs.declared.code.Instruction.TheVariants.{JumpIfZero}
 use Rattle.gw_text_expressions.specs.declared.model.Expression.{Expression}
 use Rattle.gw_compile.specs.Numbers.{Numbers}
 use Rattle.gw_compile.specs.Scope.{scope_of}

@@ -1,22 +1,22 @@
 -- Compiled expressions keep their value.
 use Rattle.std.specs.Prelude.{◌≡◌, ℕ, ◌+◌, ◌<◌, ◌≤◌, ◌⊎◌, List, [], ◌∷◌, ◌++◌, length, Some, None, true, Result, Ok, Err, IfOk, ℤ, slice_get}
 use Rattle.std.specs.List.{All, list_all}
-use Rattle.gw_blocks.specs.declared.parts.Numbered.{Numbered}
-use Rattle.gw_blocks.specs.declared.parts.Operand.TheVariants as operands
-use Rattle.gw_code.specs.Limits.{most_instructions, most_backs, most_locals}
-use Rattle.gw_code.specs.Grammar.{NeedsAscend, backs}
-use Rattle.gw_code.specs.declared.parts.Instruction.{Instruction}
-use Rattle.gw_code.specs.declared.parts.Procedure.{Procedure}
+use Rattle.gw_object.specs.declared.blocks.Numbered.{Numbered}
+use Rattle.gw_object.specs.declared.blocks.Operand.TheVariants as operands
+use Rattle.gw_object.specs.Limits.{most_instructions, most_backs, most_locals}
+use Rattle.gw_object.specs.CodeGrammar.{NeedsAscend, backs}
+use Rattle.gw_object.specs.declared.code.Instruction.{Instruction}
+use Rattle.gw_object.specs.declared.code.Procedure.{Procedure}
 use Rattle.gw_object.specs.declared.parts.Parts.{Parts}
 use Rattle.gw_object.specs.Grammar.{HasSpelling}
-use Rattle.gw_operands.specs.Sources.{source_of}
+use Rattle.gw_rules.specs.Sources.{source_of}
 use Rattle.gw_rules.specs.Pass.{KindsPass}
-use Rattle.gw_operands.specs.declared.ends.PlusEnd.{PlusEnd}
-use Rattle.gw_operands.specs.Environment.{Environment}
-use Rattle.gw_operands.specs.Code.{procedure_at, arguments_of, is_among, called_in, calls_lower, asks_for}
+use Rattle.gw_rules.specs.declared.ends.PlusEnd.{PlusEnd}
+use Rattle.gw_rules.specs.Environment.{Environment}
+use Rattle.gw_rules.specs.Code.{procedure_at, arguments_of, is_among, called_in, calls_lower, asks_for}
 use Rattle.gw_rules.specs.PlusChecks.{PlusPasses}
-use Rattle.gw_operands.specs.Meaning.{Taken, Derives}
-use Rattle.gw_operands.specs.Outcome.{outcome_of}
+use Rattle.gw_rules.specs.Meaning.{Taken, Derives}
+use Rattle.gw_rules.specs.Outcome.{outcome_of}
 use Rattle.gw_rules.specs.PlusLaws.{HasSet}
 use Rattle.gw_text_expressions.specs.declared.model.Expression.{Expression}
 use Rattle.gw_compile.specs.declared.faults.CompileFault.{CompileFault}

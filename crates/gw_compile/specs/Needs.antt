@@ -1,14 +1,14 @@
 -- The parameters that a procedure needs: those for which its code asks, by their numbers, ascending.
 use Rattle.std.specs.Prelude.{◌≡◌, ℕ, List, [], ◌∷◌, Result, OnOk, Vec, if◌then◌else◌, ◌==◌, nat_lt, slice_get}
 use Rattle.std.specs.Global.{Global}
-use Rattle.gw_blocks.specs.declared.parts.Operand.{Operand}
-use Rattle.gw_blocks.specs.declared.parts.Operand.TheVariants as operands
-use Rattle.gw_code.specs.declared.parts.Instruction.{Instruction}
-use Rattle.gw_code.specs.declared.parts.Instruction.TheVariants.{Value, Call}
-use Rattle.gw_code.specs.declared.parts.Procedure.{Procedure}
-use Rattle.gw_code.specs.declared.parts.Sna.{Sna}
-use Rattle.gw_code.specs.declared.parts.Sna.TheVariants as snas
-use Rattle.gw_operands.specs.Code.{needs_of}
+use Rattle.gw_object.specs.declared.blocks.Operand.{Operand}
+use Rattle.gw_object.specs.declared.blocks.Operand.TheVariants as operands
+use Rattle.gw_object.specs.declared.code.Instruction.{Instruction}
+use Rattle.gw_object.specs.declared.code.Instruction.TheVariants.{Value, Call}
+use Rattle.gw_object.specs.declared.code.Procedure.{Procedure}
+use Rattle.gw_object.specs.declared.code.Sna.{Sna}
+use Rattle.gw_object.specs.declared.code.Sna.TheVariants as snas
+use Rattle.gw_rules.specs.Code.{needs_of}
 use Rattle.gw_compile.specs.Numbers.{Numbers}
 
 -- what is evaluated for an attribute in the end

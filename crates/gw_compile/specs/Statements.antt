@@ -1,9 +1,9 @@
 -- What the statements of a PROCEDURE become.
 use Rattle.std.specs.Prelude.{◌≡◌, ℕ, pos, ◌+◌, ◌<◌, min, Result, List, [], ◌∷◌, ◌++◌, length, map, Option, Some, None, option_map, option_to_list}
 use Rattle.std.specs.Prelude.{Bool, true, false, ◌&&◌, ◌||◌, string_bytes}
-use Rattle.gw_code.specs.declared.parts.Instruction.{Instruction}
-use Rattle.gw_code.specs.declared.parts.Instruction.TheVariants.{Push, Set, Jump, JumpIfZero, Back, Return}
-use Rattle.gw_code.specs.Limits.{most_locals}
+use Rattle.gw_object.specs.declared.code.Instruction.{Instruction}
+use Rattle.gw_object.specs.declared.code.Instruction.TheVariants.{Push, Set, Jump, JumpIfZero, Back, Return}
+use Rattle.gw_object.specs.Limits.{most_locals}
 use Rattle.gw_text_expressions.specs.declared.model.Expression.{Expression}
 use Rattle.gw_text_plus.specs.declared.model.PlusStatement.{PlusStatement, Row_of-PlusStatement, end_of-PlusStatement, more_of-PlusStatement}
 use Rattle.gw_text_plus.specs.declared.model.PlusStatement.{Held-PlusStatement-If-2, None', Some'}

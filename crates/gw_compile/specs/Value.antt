@@ -3,17 +3,17 @@ use Rattle.std.specs.Prelude.{ℕ, List, [], ◌∷◌, Option, Some, None, Resu
 use Rattle.gw_num.specs.declared.arithmetic.NumFault.{NumFault}
 use Rattle.gw_num.specs.Operators.{binary_value, unary_value}
 use Rattle.gw_num.specs.Table.{at}
-use Rattle.gw_blocks.specs.declared.parts.Operand.{Operand}
-use Rattle.gw_blocks.specs.declared.parts.Operand.TheVariants as operands
-use Rattle.gw_code.specs.declared.parts.Sna.{Sna}
+use Rattle.gw_object.specs.declared.blocks.Operand.{Operand}
+use Rattle.gw_object.specs.declared.blocks.Operand.TheVariants as operands
+use Rattle.gw_object.specs.declared.code.Sna.{Sna}
 use Rattle.gw_object.specs.declared.parts.Parts.{Parts}
-use Rattle.gw_operands.specs.Sources.{source_of, as_operand}
-use Rattle.gw_operands.specs.declared.ends.PlusEnd.{PlusEnd}
-use Rattle.gw_operands.specs.Environment.{Environment, kept_value}
-use Rattle.gw_operands.specs.Code.{procedure_at, costs_of}
-use Rattle.gw_operands.specs.Results.{value_by_operand}
-use Rattle.gw_operands.specs.Meaning.{ended_by, opening_frame}
-use Rattle.gw_operands.specs.Outcome.{answer_within}
+use Rattle.gw_rules.specs.Sources.{source_of, as_operand}
+use Rattle.gw_rules.specs.declared.ends.PlusEnd.{PlusEnd}
+use Rattle.gw_rules.specs.Environment.{Environment, kept_value}
+use Rattle.gw_rules.specs.Code.{procedure_at, costs_of}
+use Rattle.gw_rules.specs.Results.{value_by_operand}
+use Rattle.gw_rules.specs.Meaning.{ended_by, opening_frame}
+use Rattle.gw_rules.specs.Outcome.{answer_within}
 use Rattle.gw_text_expressions.specs.declared.model.Expression.{Expression, Row_of-Expression, end_of-Expression, more_of-Expression}
 use Rattle.gw_text_expressions.specs.declared.model.Expression.TheVariants.{Whole, Name, Sna as Attribute, Parentheses', Call', Unary', Binary'}
 use Rattle.gw_compile.specs.declared.numbering.Callee.{Callee}

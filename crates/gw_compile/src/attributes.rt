@@ -4,8 +4,7 @@ ghost use Rattle.std.specs.Prelude.{◌≡◌};
 ghost use Rattle.gw_compile.specs.Attributes as model;
 
 use crate::numbering::Numbering;
-use gw_blocks::{Attribute, EntityAttribute, Numbered};
-use gw_code::Sna;
+use gw_object::{Attribute, EntityAttribute, Numbered, Sna};
 use gw_rules::EntityKind;
 use gw_text_expressions::{BlockName, BlockValue, EntityValue, Parameter, Sna as TextSna};
 

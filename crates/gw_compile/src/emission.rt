@@ -10,7 +10,7 @@ use crate::attributes::attribute_in;
 use crate::faults::CompileFault;
 use crate::locals::{Meaning, name_meaning};
 use crate::numbering::{Callee, Equ, Numbering};
-use gw_code::Instruction;
+use gw_object::Instruction;
 use gw_text_expressions::Expression;
 
 /// One more instruction.

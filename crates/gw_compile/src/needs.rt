@@ -2,13 +2,12 @@
 
 ghost use Rattle.std.specs.Prelude.{◌≡◌, OnOk, IfOk, slice_get};
 ghost use Rattle.std.specs.Option.{option_copied};
-ghost use Rattle.gw_operands.specs.Code as flow;
+ghost use Rattle.gw_rules.specs.Code as flow;
 ghost use Rattle.gw_compile.specs.Needs as model;
 ghost use Rattle.gw_compile.specs.Needs.{AddsNeeds, asks};
 
 use crate::numbering::Numbering;
-use gw_blocks::Operand;
-use gw_code::{Instruction, Procedure, Sna};
+use gw_object::{Instruction, Operand, Procedure, Sna};
 use std::alloc::{AllocError, Global};
 
 /// What is evaluated for an attribute in the end.

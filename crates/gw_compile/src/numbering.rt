@@ -3,7 +3,7 @@
 ghost use Rattle.std.specs.Prelude.{◌≡◌, string_bytes};
 ghost use Rattle.gw_compile.specs.Numbers.{Numbers};
 
-use gw_blocks::{Numbered, Operand};
+use gw_object::{Numbered, Operand};
 use gw_rules::EntityKind;
 
 /// What the name of an EQU stands for.
@@ -51,7 +51,7 @@ pub trait Numbering {
 
     /// What is evaluated for an attribute of an entity or a block in the end: for a variable a call of its procedure, for
     /// a function its argument, and for a function of a variable a call of that one's; any other is its own
-    /// (`gw_operands::source_of`).
+    /// (`gw_rules::source_of`).
     fn source(&self, of: Numbered) -> Operand
         ensures { result ≡ (numbers self.now).source of };
 }

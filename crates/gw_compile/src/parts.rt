@@ -2,7 +2,7 @@
 
 ghost use Rattle.std.specs.Prelude.{◌≡◌, ◌≤◌, ◌<◌, ◌+◌, ◌++◌, ◌∷◌, [], None, true};
 ghost use Rattle.std.specs.Prelude.{length, string_bytes, OnOk, IfOk};
-ghost use Rattle.gw_code.specs.Limits.{most_locals};
+ghost use Rattle.gw_object.specs.Limits.{most_locals};
 ghost use Rattle.gw_compile.specs.Emission.{Puts, EmitsTest, IsBehind};
 ghost use Rattle.gw_compile.specs.Scope.{scope_of, scope_with};
 ghost use Rattle.gw_compile.specs.Statements as model;
@@ -15,7 +15,7 @@ use crate::emission::{emit, put};
 use crate::faults::CompileFault;
 use crate::locals::local_of;
 use crate::numbering::Numbering;
-use gw_code::{Back, Instruction, MOST_LOCALS};
+use gw_object::{Back, Instruction, MOST_LOCALS};
 use gw_text_expressions::Expression;
 
 /// How often a WHILE goes round at most, while one activation of its procedure lasts.

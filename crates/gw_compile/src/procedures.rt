@@ -2,9 +2,9 @@
 
 ghost use Rattle.std.specs.Prelude.{◌≡◌, ◌≤◌, [], length};
 ghost use Rattle.std.specs.Prelude.{IfOk, MatchBool, None};
-ghost use Rattle.gw_code.specs.Limits.{most_locals};
-ghost use Rattle.gw_code.specs.Grammar as grammar;
-ghost use Rattle.gw_code.specs.Grammar.{backs};
+ghost use Rattle.gw_object.specs.Limits.{most_locals};
+ghost use Rattle.gw_object.specs.CodeGrammar as grammar;
+ghost use Rattle.gw_object.specs.CodeGrammar.{backs};
 ghost use Rattle.gw_compile.specs.Code.{IsProcedureCode};
 ghost use Rattle.gw_compile.specs.Emission.{Puts};
 ghost use Rattle.gw_compile.specs.Keeps.{Compiles, CompilesProcedure, NeedsWhatItAsks};
@@ -20,8 +20,8 @@ use crate::needs::needs_in;
 use crate::numbering::Numbering;
 use crate::parts::declare_all;
 use crate::statements::put_statement;
-use gw_code::{Instruction, MOST_BACKS, MOST_INSTRUCTIONS, Procedure};
 use gw_fields::Items;
+use gw_object::{Instruction, MOST_BACKS, MOST_INSTRUCTIONS, Procedure};
 use gw_text_expressions::Expression;
 use gw_text_plus as text;
 use std::alloc::{AllocError, Global};

@@ -10,7 +10,7 @@ use crate::parts::{
     assign, declare_all, lead_leap_on, lead_test_on, next_place, put_leap, put_test, put_turn,
     return_value,
 };
-use gw_code::Instruction;
+use gw_object::Instruction;
 use gw_text_expressions::Expression;
 use gw_text_plus::PlusStatement;
 

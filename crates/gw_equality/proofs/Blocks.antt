@@ -2,62 +2,62 @@
 use denote.Enum.Bare.{same_true}
 use Rattle.gw_equality.specs.Same.{TellsApart, same_operand, same_block}
 use Rattle.gw_equality.proofs.Fields.{OnlyEqual, apart, nat_only, int_only, bool_only, option_only, of_fields, ◌⊗◌, ◌⊕◌, bare, no_more, of_choices}
-use Rattle.gw_blocks.specs.declared.parts.Assign.{Assign}
-use Rattle.gw_blocks.specs.declared.parts.Both.{Both}
-use Rattle.gw_blocks.specs.declared.parts.Call.{Call}
-use Rattle.gw_blocks.specs.declared.parts.Fraction.{Fraction}
-use Rattle.gw_blocks.specs.declared.parts.Gate.{Gate}
-use Rattle.gw_blocks.specs.declared.parts.Generate.{Generate}
-use Rattle.gw_blocks.specs.declared.parts.Link.{Link}
-use Rattle.gw_blocks.specs.declared.parts.Logic.{Logic}
-use Rattle.gw_blocks.specs.declared.parts.Loop.{Loop}
-use Rattle.gw_blocks.specs.declared.parts.Numbered.{Numbered}
-use Rattle.gw_blocks.specs.declared.parts.Plus.{Plus}
-use Rattle.gw_blocks.specs.declared.parts.Priority.{Priority}
-use Rattle.gw_blocks.specs.declared.parts.Save.{Save}
-use Rattle.gw_blocks.specs.declared.parts.Split.{Split}
-use Rattle.gw_blocks.specs.declared.parts.Spread.{Spread}
-use Rattle.gw_blocks.specs.declared.parts.Test.{Test}
-use Rattle.gw_blocks.specs.declared.parts.Units.{Units}
-use Rattle.gw_blocks.specs.declared.parts.Unlink.{Unlink}
-use Rattle.gw_blocks.specs.contracts.parts.AttributePartialEq.TheImpl as attribute_eq
-use Rattle.gw_blocks.specs.contracts.parts.Attribute as attribute_type
-use Rattle.gw_blocks.specs.contracts.parts.EntityAttributePartialEq.TheImpl as entity_attribute_eq
-use Rattle.gw_blocks.specs.contracts.parts.EntityAttribute as entity_attribute_type
-use Rattle.gw_blocks.specs.contracts.parts.NumberedPartialEq.TheImpl as numbered_eq
-use Rattle.gw_blocks.specs.contracts.parts.OperandPartialEq.TheImpl as operand_eq
-use Rattle.gw_blocks.specs.contracts.parts.Operand as operand_type
-use Rattle.gw_blocks.specs.contracts.parts.SpreadPartialEq.TheImpl as spread_eq
-use Rattle.gw_blocks.specs.contracts.parts.GeneratePartialEq.TheImpl as generate_eq
-use Rattle.gw_blocks.specs.contracts.parts.UnitsPartialEq.TheImpl as units_eq
-use Rattle.gw_blocks.specs.contracts.parts.FractionPartialEq.TheImpl as fraction_eq
-use Rattle.gw_blocks.specs.contracts.parts.BothPartialEq.TheImpl as both_eq
-use Rattle.gw_blocks.specs.contracts.parts.ModePartialEq.TheImpl as mode_eq
-use Rattle.gw_blocks.specs.contracts.parts.Mode as mode_type
-use Rattle.gw_blocks.specs.contracts.parts.AssignPartialEq.TheImpl as assign_eq
-use Rattle.gw_blocks.specs.contracts.parts.ComparisonPartialEq.TheImpl as comparison_eq
-use Rattle.gw_blocks.specs.contracts.parts.Comparison as comparison_type
-use Rattle.gw_blocks.specs.contracts.parts.TestPartialEq.TheImpl as test_eq
-use Rattle.gw_blocks.specs.contracts.parts.ConditionPartialEq.TheImpl as condition_eq
-use Rattle.gw_blocks.specs.contracts.parts.Condition as condition_type
-use Rattle.gw_blocks.specs.contracts.parts.GatePartialEq.TheImpl as gate_eq
-use Rattle.gw_blocks.specs.contracts.parts.CallPartialEq.TheImpl as call_eq
-use Rattle.gw_blocks.specs.contracts.parts.LoopPartialEq.TheImpl as loop_eq
-use Rattle.gw_blocks.specs.contracts.parts.SplitPartialEq.TheImpl as split_eq
-use Rattle.gw_blocks.specs.contracts.parts.SwitchActionPartialEq.TheImpl as switch_action_eq
-use Rattle.gw_blocks.specs.contracts.parts.SwitchAction as switch_action_type
-use Rattle.gw_blocks.specs.contracts.parts.LogicPartialEq.TheImpl as logic_eq
-use Rattle.gw_blocks.specs.contracts.parts.SavePartialEq.TheImpl as save_eq
-use Rattle.gw_blocks.specs.contracts.parts.LinkOrderPartialEq.TheImpl as link_order_eq
-use Rattle.gw_blocks.specs.contracts.parts.LinkOrder as link_order_type
-use Rattle.gw_blocks.specs.contracts.parts.LinkPartialEq.TheImpl as link_eq
-use Rattle.gw_blocks.specs.contracts.parts.UnlinkPartialEq.TheImpl as unlink_eq
-use Rattle.gw_blocks.specs.contracts.parts.PriorityPartialEq.TheImpl as priority_eq
-use Rattle.gw_blocks.specs.contracts.parts.PlusPartialEq.TheImpl as plus_eq
-use Rattle.gw_blocks.specs.contracts.parts.BlockPartialEq.TheImpl as block_eq
-use Rattle.gw_blocks.specs.contracts.parts.Block as block_type
-use Rattle.gw_blocks.specs.contracts.parts.OperandEq.TheImpl.Laws as operand_laws
-use Rattle.gw_blocks.specs.contracts.parts.BlockEq.TheImpl.Laws as block_laws
+use Rattle.gw_object.specs.declared.blocks.Assign.{Assign}
+use Rattle.gw_object.specs.declared.blocks.Both.{Both}
+use Rattle.gw_object.specs.declared.blocks.Call.{Call}
+use Rattle.gw_object.specs.declared.blocks.Fraction.{Fraction}
+use Rattle.gw_object.specs.declared.blocks.Gate.{Gate}
+use Rattle.gw_object.specs.declared.blocks.Generate.{Generate}
+use Rattle.gw_object.specs.declared.blocks.Link.{Link}
+use Rattle.gw_object.specs.declared.blocks.Logic.{Logic}
+use Rattle.gw_object.specs.declared.blocks.Loop.{Loop}
+use Rattle.gw_object.specs.declared.blocks.Numbered.{Numbered}
+use Rattle.gw_object.specs.declared.blocks.Plus.{Plus}
+use Rattle.gw_object.specs.declared.blocks.Priority.{Priority}
+use Rattle.gw_object.specs.declared.blocks.Save.{Save}
+use Rattle.gw_object.specs.declared.blocks.Split.{Split}
+use Rattle.gw_object.specs.declared.blocks.Spread.{Spread}
+use Rattle.gw_object.specs.declared.blocks.Test.{Test}
+use Rattle.gw_object.specs.declared.blocks.Units.{Units}
+use Rattle.gw_object.specs.declared.blocks.Unlink.{Unlink}
+use Rattle.gw_object.specs.contracts.blocks.AttributePartialEq.TheImpl as attribute_eq
+use Rattle.gw_object.specs.contracts.blocks.Attribute as attribute_type
+use Rattle.gw_object.specs.contracts.blocks.EntityAttributePartialEq.TheImpl as entity_attribute_eq
+use Rattle.gw_object.specs.contracts.blocks.EntityAttribute as entity_attribute_type
+use Rattle.gw_object.specs.contracts.blocks.NumberedPartialEq.TheImpl as numbered_eq
+use Rattle.gw_object.specs.contracts.blocks.OperandPartialEq.TheImpl as operand_eq
+use Rattle.gw_object.specs.contracts.blocks.Operand as operand_type
+use Rattle.gw_object.specs.contracts.blocks.SpreadPartialEq.TheImpl as spread_eq
+use Rattle.gw_object.specs.contracts.blocks.GeneratePartialEq.TheImpl as generate_eq
+use Rattle.gw_object.specs.contracts.blocks.UnitsPartialEq.TheImpl as units_eq
+use Rattle.gw_object.specs.contracts.blocks.FractionPartialEq.TheImpl as fraction_eq
+use Rattle.gw_object.specs.contracts.blocks.BothPartialEq.TheImpl as both_eq
+use Rattle.gw_object.specs.contracts.blocks.ModePartialEq.TheImpl as mode_eq
+use Rattle.gw_object.specs.contracts.blocks.Mode as mode_type
+use Rattle.gw_object.specs.contracts.blocks.AssignPartialEq.TheImpl as assign_eq
+use Rattle.gw_object.specs.contracts.blocks.ComparisonPartialEq.TheImpl as comparison_eq
+use Rattle.gw_object.specs.contracts.blocks.Comparison as comparison_type
+use Rattle.gw_object.specs.contracts.blocks.TestPartialEq.TheImpl as test_eq
+use Rattle.gw_object.specs.contracts.blocks.ConditionPartialEq.TheImpl as condition_eq
+use Rattle.gw_object.specs.contracts.blocks.Condition as condition_type
+use Rattle.gw_object.specs.contracts.blocks.GatePartialEq.TheImpl as gate_eq
+use Rattle.gw_object.specs.contracts.blocks.CallPartialEq.TheImpl as call_eq
+use Rattle.gw_object.specs.contracts.blocks.LoopPartialEq.TheImpl as loop_eq
+use Rattle.gw_object.specs.contracts.blocks.SplitPartialEq.TheImpl as split_eq
+use Rattle.gw_object.specs.contracts.blocks.SwitchActionPartialEq.TheImpl as switch_action_eq
+use Rattle.gw_object.specs.contracts.blocks.SwitchAction as switch_action_type
+use Rattle.gw_object.specs.contracts.blocks.LogicPartialEq.TheImpl as logic_eq
+use Rattle.gw_object.specs.contracts.blocks.SavePartialEq.TheImpl as save_eq
+use Rattle.gw_object.specs.contracts.blocks.LinkOrderPartialEq.TheImpl as link_order_eq
+use Rattle.gw_object.specs.contracts.blocks.LinkOrder as link_order_type
+use Rattle.gw_object.specs.contracts.blocks.LinkPartialEq.TheImpl as link_eq
+use Rattle.gw_object.specs.contracts.blocks.UnlinkPartialEq.TheImpl as unlink_eq
+use Rattle.gw_object.specs.contracts.blocks.PriorityPartialEq.TheImpl as priority_eq
+use Rattle.gw_object.specs.contracts.blocks.PlusPartialEq.TheImpl as plus_eq
+use Rattle.gw_object.specs.contracts.blocks.BlockPartialEq.TheImpl as block_eq
+use Rattle.gw_object.specs.contracts.blocks.Block as block_type
+use Rattle.gw_object.specs.contracts.blocks.OperandEq.TheImpl.Laws as operand_laws
+use Rattle.gw_object.specs.contracts.blocks.BlockEq.TheImpl.Laws as block_laws
 
 -- OPERANDS
 

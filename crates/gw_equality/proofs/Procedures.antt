@@ -7,16 +7,16 @@ use Rattle.gw_num.specs.contracts.operators.UnaryPartialEq.TheImpl as unary_eq
 use Rattle.gw_num.specs.contracts.operators.Unary as unary_type
 use Rattle.gw_num.specs.contracts.operators.BinaryPartialEq.TheImpl as binary_eq
 use Rattle.gw_num.specs.contracts.operators.Binary as binary_type
-use Rattle.gw_code.specs.declared.parts.Back.{Back}
-use Rattle.gw_code.specs.declared.parts.Procedure.{Procedure}
-use Rattle.gw_code.specs.contracts.parts.SnaPartialEq.TheImpl as sna_eq
-use Rattle.gw_code.specs.contracts.parts.Sna as sna_type
-use Rattle.gw_code.specs.contracts.parts.BackPartialEq.TheImpl as back_eq
-use Rattle.gw_code.specs.contracts.parts.InstructionPartialEq.TheImpl as instruction_eq
-use Rattle.gw_code.specs.contracts.parts.Instruction as instruction_type
-use Rattle.gw_code.specs.contracts.parts.ProcedurePartialEq.TheImpl as procedure_eq
-use Rattle.gw_code.specs.contracts.parts.InstructionEq.TheImpl.Laws as instruction_laws
-use Rattle.gw_code.specs.contracts.parts.ProcedureEq.TheImpl.Laws as procedure_laws
+use Rattle.gw_object.specs.declared.code.Back.{Back}
+use Rattle.gw_object.specs.declared.code.Procedure.{Procedure}
+use Rattle.gw_object.specs.contracts.code.SnaPartialEq.TheImpl as sna_eq
+use Rattle.gw_object.specs.contracts.code.Sna as sna_type
+use Rattle.gw_object.specs.contracts.code.BackPartialEq.TheImpl as back_eq
+use Rattle.gw_object.specs.contracts.code.InstructionPartialEq.TheImpl as instruction_eq
+use Rattle.gw_object.specs.contracts.code.Instruction as instruction_type
+use Rattle.gw_object.specs.contracts.code.ProcedurePartialEq.TheImpl as procedure_eq
+use Rattle.gw_object.specs.contracts.code.InstructionEq.TheImpl.Laws as instruction_laws
+use Rattle.gw_object.specs.contracts.code.ProcedureEq.TheImpl.Laws as procedure_laws
 
 pub unary_only : OnlyEqual unary_eq.ghosts.eq
 unary_only = same_true unary_type.the_type tt

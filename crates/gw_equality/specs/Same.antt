@@ -1,13 +1,13 @@
 -- What `==` answers of the parts of objects, as it is derived.
 use Rattle.std.specs.Prelude.{◌≡◌, Bool, Decides}
-use Rattle.gw_blocks.specs.declared.parts.Operand.{Operand}
-use Rattle.gw_blocks.specs.contracts.parts.OperandPartialEq.TheImpl as operand_eq
-use Rattle.gw_blocks.specs.declared.parts.Block.{Block}
-use Rattle.gw_blocks.specs.contracts.parts.BlockPartialEq.TheImpl as block_eq
-use Rattle.gw_code.specs.declared.parts.Instruction.{Instruction}
-use Rattle.gw_code.specs.contracts.parts.InstructionPartialEq.TheImpl as instruction_eq
-use Rattle.gw_code.specs.declared.parts.Procedure.{Procedure}
-use Rattle.gw_code.specs.contracts.parts.ProcedurePartialEq.TheImpl as procedure_eq
+use Rattle.gw_object.specs.declared.blocks.Operand.{Operand}
+use Rattle.gw_object.specs.contracts.blocks.OperandPartialEq.TheImpl as operand_eq
+use Rattle.gw_object.specs.declared.blocks.Block.{Block}
+use Rattle.gw_object.specs.contracts.blocks.BlockPartialEq.TheImpl as block_eq
+use Rattle.gw_object.specs.declared.code.Instruction.{Instruction}
+use Rattle.gw_object.specs.contracts.code.InstructionPartialEq.TheImpl as instruction_eq
+use Rattle.gw_object.specs.declared.code.Procedure.{Procedure}
+use Rattle.gw_object.specs.contracts.code.ProcedurePartialEq.TheImpl as procedure_eq
 use Rattle.gw_object.specs.declared.parts.Entity.{Entity}
 use Rattle.gw_object.specs.contracts.parts.EntityPartialEq.TheImpl as entity_eq
 use Rattle.gw_object.specs.declared.parts.TableState.{TableState}

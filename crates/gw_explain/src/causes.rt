@@ -1,8 +1,7 @@
 //! Why a round has no weight certificate, and which way out of it fits, in words.
 
 use crate::known::{Flow, block_of, name_of, put_parameter_of};
-use gw_blocks::{Block, Mode, Operand};
-use gw_object::Memory;
+use gw_object::{Block, Memory, Mode, Operand};
 use gw_report::text::{put, put_number};
 use gw_rounds::{Cause, Hindrance};
 

@@ -1,7 +1,9 @@
 //! What is known of a transaction, in words, where a model or an object is refused by flow (docs/object-format.md).
 
-use gw_blocks::{Block, Split, Units};
-use gw_object::{Entity, Fault, Kind, Memory, Parts, Place, TableKind, TableParameter, TableState};
+use gw_object::{
+    Block, Entity, Fault, Kind, Memory, Parts, Place, Split, TableKind, TableParameter, TableState,
+    Units,
+};
 use gw_report::text::{put, put_number};
 use gw_rules::chain_row;
 use gw_rules::flow_codes::CHAIN_STATE;

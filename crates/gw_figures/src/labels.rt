@@ -6,8 +6,7 @@ ghost use Rattle.gw_figures.specs.Labels.{AddsFigures, labels, plain};
 
 use crate::entity_labels::put_entity;
 use crate::figure::{Figure, put_detail, put_plain};
-use gw_blocks::Block;
-use gw_object::{Entity, Memory, Parts};
+use gw_object::{Block, Entity, Memory, Parts};
 use gw_report::block_word;
 use gw_report::text::{put, put_number};
 use std::alloc::Global;

@@ -5,9 +5,8 @@ use Rattle.gw_object.specs.declared.fault.Fault.{Fault}
 use Rattle.gw_rules.specs.declared.ways.Exit.{Exit}
 use Rattle.gw_rules.specs.Checks.{Check, first_broken}
 use Rattle.gw_rules.proofs.Broken.{first, first_broken-append}
-use Rattle.gw_rules.specs.Blocks.{FlowEdge}
+use Rattle.gw_rules.specs.Blocks.{FlowEdge, edge_along, edges_along}
 use Rattle.gw_rules.specs.Rows.{Row}
-use Rattle.gw_rules.specs.Blocks.{edge_along, edges_along}
 
 module _ (check : FlowEdge → Check) (b : ℕ) (passed : Row) where
   -- the checks of the edges along exits

@@ -2,8 +2,8 @@
 use Rattle.std.proofs.Common.{◌≡◌, ℕ, ◌<◌, List, [], ◌∷◌, ◌++◌, Option, Some, None, option_map, Bool, true, false, if◌then◌else◌, refl, sym, ap, subst, ◌∙◌}
 use Rattle.std.specs.Prelude.{All, AllPairs}
 use Rattle.std.proofs.lemmas.List.Elements.{All-nil, All-cons, All-append}
-use Rattle.gw_blocks.specs.declared.parts.Block.{Block}
-use Rattle.gw_blocks.specs.declared.parts.Block.TheVariants as blocks
+use Rattle.gw_object.specs.declared.blocks.Block.{Block}
+use Rattle.gw_object.specs.declared.blocks.Block.TheVariants as blocks
 use Rattle.gw_object.specs.declared.parts.ReturnRow.{ReturnRow}
 use Rattle.gw_rules.specs.declared.ways.Who.{Who}
 use Rattle.gw_rules.specs.declared.ways.Who.TheVariants.{Itself, Copies}
@@ -11,14 +11,12 @@ use Rattle.gw_rules.specs.declared.ways.Exit.{Exit}
 use Rattle.gw_rules.specs.Exits.{leads_to, exits_with}
 use Rattle.gw_rules.specs.declared.set_parameters.Parameter.{Parameter}
 use Rattle.gw_flow.specs.declared.abstract_state.StateParts.{StateParts}
-use Rattle.gw_rules.specs.Blocks.{FlowEdge}
+use Rattle.gw_rules.specs.Blocks.{FlowEdge, number_in, parameter_set, with_setting, after, returns_read, move, is_used, known_of, edge_along, edges_along, edges_from, join, joins}
 use Rattle.gw_rules.specs.Entries.{with_entry}
 use Rattle.gw_rules.specs.Rows.{ParamKind, Row}
 use Rattle.gw_rules.specs.Seen.{kind_seen}
 use Rattle.gw_flow.specs.Known.{params_of, known_row}
 use Rattle.gw_flow.specs.Answered.{parameters_with}
-use Rattle.gw_rules.specs.Blocks.{number_in, parameter_set, with_setting, after, returns_read, move, is_used, known_of, edge_along, edges_along}
-use Rattle.gw_rules.specs.Blocks.{edges_from, join, joins}
 use Rattle.gw_rules.proofs.Chains.{ChainUse, Links, Unlinks, Neither, chain_use}
 use Rattle.gw_rules.proofs.Entries.{entries-in_place}
 use Rattle.gw_rules.proofs.Parameters.{after_params}

@@ -3,16 +3,15 @@ use Rattle.std.proofs.Common.{◌≡◌, ℕ, List, [], ◌∷◌, ◌++◌, ◌
 use Rattle.std.specs.Prelude.{All}
 use Rattle.std.proofs.lemmas.List.{append-nil}
 use Rattle.std.proofs.lemmas.List.Elements.{All-nil, All-cons, All-head}
-use Rattle.gw_blocks.specs.declared.parts.Link.{Link}
-use Rattle.gw_blocks.specs.declared.parts.Unlink.{Unlink}
-use Rattle.gw_blocks.specs.declared.parts.Block.{Block}
-use Rattle.gw_blocks.specs.declared.parts.Block.TheVariants as blocks
+use Rattle.gw_object.specs.declared.blocks.Link.{Link}
+use Rattle.gw_object.specs.declared.blocks.Unlink.{Unlink}
+use Rattle.gw_object.specs.declared.blocks.Block.{Block}
+use Rattle.gw_object.specs.declared.blocks.Block.TheVariants as blocks
 use Rattle.gw_object.specs.declared.parts.ReturnRow.{ReturnRow}
 use Rattle.gw_rules.specs.declared.set_parameters.Parameter.{Parameter}
 use Rattle.gw_flow.specs.declared.edges.Edge.{Edge}
-use Rattle.gw_rules.specs.Blocks.{FlowEdge}
+use Rattle.gw_rules.specs.Blocks.{FlowEdge, Table, parameter_set, move, edges_from, joins, members_edges}
 use Rattle.gw_rules.specs.Rows.{Row}
-use Rattle.gw_rules.specs.Blocks.{Table, parameter_set, move, edges_from, joins, members_edges}
 use Rattle.gw_flow.specs.Answered.{SayTheSame, parameters_with, own_edges, HaveOwn}
 use Rattle.gw_rules.proofs.Chains.{ChainUse, Links, Unlinks, Neither}
 

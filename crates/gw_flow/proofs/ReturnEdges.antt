@@ -4,16 +4,15 @@ use Rattle.std.specs.Prelude.{All, IsSomeAnd, IsTrue, is_some}
 use Rattle.std.specs.List.{list_all}
 use Rattle.std.proofs.lemmas.Bool.{cases_eq, ne_eqb, and_parts, false≢true}
 use Rattle.std.proofs.lemmas.List.Elements.{All-nil, All-cons, All-head, All-tail, All-append}
-use Rattle.gw_blocks.specs.declared.parts.Block.TheVariants as blocks
+use Rattle.gw_object.specs.declared.blocks.Block.TheVariants as blocks
 use Rattle.gw_object.specs.declared.parts.Parts.{Parts}
 use Rattle.gw_rules.specs.Exits.{returns_to}
 use Rattle.gw_rules.proofs.Each.{Hold}
-use Rattle.gw_rules.specs.Blocks.{FlowEdge}
+use Rattle.gw_rules.specs.Blocks.{FlowEdge, Table, Rule, rule, move, edges_along, edges_from, chain_edges}
 use Rattle.gw_rules.specs.declared.edges.Target.TheVariants as targets
 use Rattle.gw_rules.specs.FlowCodes as codes
 use Rattle.gw_rules.specs.Entries.{lists}
 use Rattle.gw_rules.specs.Rows.{Row, ParamKind, Num, Ret, kind_of, kind_fits, is_return, return_blocks, Fits}
-use Rattle.gw_rules.specs.Blocks.{Table, Rule, rule, move, edges_along, edges_from, chain_edges}
 use Rattle.gw_rules.specs.Flow.{checks_in}
 use Rattle.gw_flow.specs.ReturnEdges.{MayReturn}
 use Rattle.gw_rules.proofs.EachBlock.{All-front}

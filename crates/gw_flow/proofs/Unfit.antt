@@ -8,10 +8,10 @@ use Rattle.std.proofs.lemmas.List.{flat_map_more, take_more}
 use Rattle.std.proofs.lemmas.List.Sums.{fold-append}
 use Rattle.std.proofs.lemmas.List.Elements.{All-nil, All-cons, All-head, All-tail}
 use Rattle.gw_object.specs.declared.fault.Fault.{Fault}
-use Rattle.gw_blocks.specs.declared.parts.Operand.{Operand}
+use Rattle.gw_object.specs.declared.blocks.Operand.{Operand}
 use Rattle.gw_object.specs.declared.parts.Parts.{Parts}
 use Rattle.gw_rules.specs.Checks.{first_broken}
-use Rattle.gw_operands.specs.Code.{parameters_asked}
+use Rattle.gw_rules.specs.Code.{parameters_asked}
 use Rattle.gw_rules.specs.Entries.{with_number, in_order}
 use Rattle.gw_rules.specs.Rows.{Row, ParamKind, Num, Ret, kind_of, is_number}
 use Rattle.gw_rules.specs.Blocks.{number_rules, parameters_read}

@@ -3,8 +3,8 @@ use Rattle.std.specs.Prelude.{◌≡◌, ◌⊎◌, ℕ, List, map, take, Option
 use Rattle.std.specs.Global.{Global}
 use Rattle.gw_object.specs.Reading.{out_of_memory}
 use Rattle.gw_object.specs.declared.fault.Fault.{Fault}
-use Rattle.gw_blocks.specs.declared.parts.Block.{Block}
-use Rattle.gw_blocks.specs.declared.parts.Block.TheVariants as blocks
+use Rattle.gw_object.specs.declared.blocks.Block.{Block}
+use Rattle.gw_object.specs.declared.blocks.Block.TheVariants as blocks
 use Rattle.gw_object.specs.declared.parts.ReturnRow.{ReturnRow}
 use Rattle.gw_object.specs.declared.parts.Parts.{Parts}
 use Rattle.gw_rules.specs.Checks.{Check, first_broken}
@@ -13,12 +13,11 @@ use Rattle.gw_rules.specs.declared.set_parameters.Parameter.{Parameter}
 use Rattle.gw_flow.specs.declared.abstract_state.StateParts.{StateParts}
 use Rattle.gw_rules.specs.declared.edges.Target.{Target}
 use Rattle.gw_flow.specs.declared.edges.Edge.{Edge}
-use Rattle.gw_rules.specs.Blocks.{FlowEdge}
+use Rattle.gw_rules.specs.Blocks.{FlowEdge, parameter_set, after, members_edges, own_edges_in, edges}
 use Rattle.gw_rules.specs.Entries.{in_place}
 use Rattle.gw_rules.specs.Rows.{Row}
 use Rattle.gw_rules.specs.Flow.{own_table, rule_checks}
 use Rattle.gw_flow.specs.Known.{params_of, known_row}
-use Rattle.gw_rules.specs.Blocks.{parameter_set, after, members_edges, own_edges_in, edges}
 
 -- a state says what is known of a transaction once it has passed the block of number b in another one, by the return rows
 abbrev pub HasPassed : List ReturnRow → ℕ → Block → StateParts → StateParts → Type 0

@@ -1,6 +1,6 @@
 -- The edges of TRANSFERs in parameter mode, said apart from the block's number: where the return leads that a parameter holds.
 use Rattle.std.specs.Prelude.{◌≡◌, ℕ, ◌+◌, List, Option, Some, option_map, true, All, IsSomeAnd}
-use Rattle.gw_blocks.specs.declared.parts.Block.TheVariants as blocks
+use Rattle.gw_object.specs.declared.blocks.Block.TheVariants as blocks
 use Rattle.gw_object.specs.declared.parts.Parts.{Parts}
 use Rattle.gw_object.specs.declared.parts.ReturnRow.{ReturnRow}
 use Rattle.gw_flow.specs.declared.abstract_state.StateParts.{StateParts}

@@ -1,7 +1,7 @@
 -- The least of the parameters that are used as numbers and may be none.
 use Rattle.std.specs.Prelude.{ℕ, List, Option, Some, None, Bool, not, if◌then◌else◌, nat_le}
 use Rattle.std.specs.List.{fold, find}
-use Rattle.gw_blocks.specs.declared.parts.Operand.{Operand}
+use Rattle.gw_object.specs.declared.blocks.Operand.{Operand}
 use Rattle.gw_object.specs.declared.parts.Parts.{Parts}
 use Rattle.gw_rules.specs.Rows.{Row, kind_of, is_number}
 use Rattle.gw_rules.specs.Blocks.{parameters_read}

@@ -2,15 +2,14 @@
 use Rattle.std.specs.Prelude.{◌≡◌, ℕ, List, Some, map, Result}
 use Rattle.gw_object.specs.declared.fault.Fault.{Fault}
 use Rattle.gw_object.specs.declared.parts.Parts.{Parts}
-use Rattle.gw_blocks.specs.declared.parts.Block.{Block}
+use Rattle.gw_object.specs.declared.blocks.Block.{Block}
 use Rattle.gw_rules.specs.Checks.{Check, Finds}
 use Rattle.gw_flow.specs.declared.abstract_state.StateParts.{StateParts}
-use Rattle.gw_rules.specs.Blocks.{FlowEdge}
+use Rattle.gw_rules.specs.Blocks.{FlowEdge, Table}
 use Rattle.gw_flow.specs.declared.table.StateTable.{StateTable}
 use Rattle.gw_rules.specs.declared.edges.Target.TheVariants as targets
 use Rattle.gw_rules.specs.Rows.{Row, HasRoom}
 use Rattle.gw_flow.specs.Known.{known_row, known_rows}
-use Rattle.gw_rules.specs.Blocks.{Table}
 use Rattle.gw_rules.specs.Flow.{table_of, edge_check, checks_in, checks_at, MayFind}
 
 -- the rows of the blocks, and of the entities that are user chains, as one table

@@ -18,9 +18,8 @@ use crate::lookups::Carried;
 use crate::rules::check_rules;
 use crate::setting::parameter_set;
 use crate::state::State;
-use gw_blocks::Block;
 use gw_object::codes::MEMORY;
-use gw_object::{Fault, Items, Memory, Object, Parts, Place, ReturnRow};
+use gw_object::{Block, Fault, Items, Memory, Object, Parts, Place, ReturnRow};
 use gw_rules::{FlowEdge, Parameter, Target, chain_row};
 use std::alloc::{AllocError, Global};
 

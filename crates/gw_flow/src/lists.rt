@@ -7,8 +7,7 @@ ghost use Rattle.gw_rules.specs.Seen.{units_seen};
 ghost use Rattle.gw_flow.specs.Known.{amounts_of, ArePut};
 
 use crate::abstract_state::Amount;
-use gw_blocks::Units;
-use gw_object::{Items, Memory};
+use gw_object::{Items, Memory, Units};
 use gw_rules::Parameter;
 use std::alloc::Global;
 

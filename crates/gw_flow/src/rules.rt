@@ -2,18 +2,16 @@
 
 ghost use Rattle.std.specs.Prelude.{◌≡◌};
 ghost use Rattle.gw_rules.specs.Checks.{Finds};
-ghost use Rattle.gw_operands.specs.Code.{parameters_asked};
+ghost use Rattle.gw_rules.specs.Code.{parameters_asked};
 ghost use Rattle.gw_rules.specs.Blocks as model;
 ghost use Rattle.gw_rules.specs.Flow.{rule_checks, FindsRule};
 ghost use Rattle.gw_flow.specs.Unfit as unfit;
 ghost use Rattle.gw_flow.specs.Unfit.{lowest as lowest_of};
 
 use crate::lookups::{Lookups, NoRow};
-use gw_blocks::{Block, Mode, Operand};
-use gw_object::{Entity, Fault, Kind, Parts, Place};
-use gw_operands::{evaluation_operands, parameters_asked};
-use gw_rules::check;
+use gw_object::{Block, Entity, Fault, Kind, Mode, Operand, Parts, Place};
 use gw_rules::flow_codes::*;
+use gw_rules::{check, evaluation_operands, parameters_asked};
 
 /// The capacity of the entity of this number; 0 where it is no storage, or isn't there.
 fn capacity_at(entities: &[Entity], number: u16) -> u32

@@ -3,7 +3,7 @@
 ghost use Rattle.std.specs.Prelude.{◌≡◌};
 ghost use Rattle.gw_rules.specs.Blocks as model;
 
-use gw_blocks::Block;
+use gw_object::Block;
 use gw_rules::{Parameter, ParameterKind};
 
 /// A parameter that is set to a number.

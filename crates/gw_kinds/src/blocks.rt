@@ -8,8 +8,7 @@ use crate::constants::has_good_constants;
 use crate::entities::{are_there, names_no_other_kind};
 use crate::operands::has_plain_half;
 use crate::targets::{enters_no_generate, has_named_blocks, never_falls_off};
-use gw_blocks::Block;
-use gw_object::{Fault, Parts, Place};
+use gw_object::{Block, Fault, Parts, Place};
 use gw_rules::check;
 use gw_rules::kinds_codes::*;
 

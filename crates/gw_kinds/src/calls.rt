@@ -1,12 +1,11 @@
 //! The procedures that operands call.
 
 ghost use Rattle.std.specs.Prelude.{◌≡◌};
-ghost use Rattle.gw_operands.specs.Sources as evaluation;
+ghost use Rattle.gw_rules.specs.Sources as evaluation;
 ghost use Rattle.gw_rules.specs.Kinds as model;
 
-use gw_blocks::{Block, Operand};
-use gw_code::Procedure;
-use gw_operands::values;
+use gw_object::{Block, Operand, Procedure};
+use gw_rules::values;
 
 /// The procedure that an operand calls, if it is a call.
 pub(crate) fn procedure_named(operand: &Operand) -> Option<u16>

@@ -3,7 +3,7 @@
 ghost use Rattle.std.specs.Prelude.{◌≡◌};
 ghost use Rattle.gw_rules.specs.Kinds as model;
 
-use gw_blocks::{Block, Generate};
+use gw_object::{Block, Generate};
 
 /// The most units that a block moves: 2^20 (ours: docs/refusals.md).
 const MOST_UNITS: u32 = 1_048_576;

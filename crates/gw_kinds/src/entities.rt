@@ -3,10 +3,8 @@
 ghost use Rattle.std.specs.Prelude.{◌≡◌};
 ghost use Rattle.gw_rules.specs.Kinds as model;
 
-use gw_blocks::{Block, Condition, EntityAttribute, Numbered, Operand};
-use gw_object::{Entity, Kind};
-use gw_operands::values;
-use gw_rules::{EntityKind, Named, needs};
+use gw_object::{Block, Condition, Entity, EntityAttribute, Kind, Numbered, Operand};
+use gw_rules::{EntityKind, Named, needs, values};
 
 /// What an attribute needs its entity to be; an attribute of a block needs none.
 pub(crate) fn needed_for(attribute: EntityAttribute) -> Option<EntityKind>

@@ -1,18 +1,16 @@
 //! What operands name, and where one may be a function's value.
 
 ghost use Rattle.std.specs.Prelude.{◌≡◌};
-ghost use Rattle.gw_operands.specs.Sources as evaluation;
+ghost use Rattle.gw_rules.specs.Sources as evaluation;
 ghost use Rattle.gw_rules.specs.Kinds as model;
 
 use crate::calls::{is_procedure, procedure_named, takes_no_arguments};
 use crate::checks::NumberedChecks;
 use crate::entities::{entity_of, is_no_other_kind, is_there};
 use crate::targets::{block_of, is_block};
-use gw_blocks::{Block, EntityAttribute, Operand};
-use gw_object::{Entity, Fault, Kind, Parts, Place};
-use gw_operands::operand_of;
-use gw_rules::check;
+use gw_object::{Block, Entity, EntityAttribute, Fault, Kind, Operand, Parts, Place};
 use gw_rules::kinds_codes::{NO_BLOCK, NO_ENTITY, WRONG_KIND};
+use gw_rules::{check, operand_of};
 
 /// Whether an operand names no entity of another kind than what it needs, and calls no procedure that takes arguments.
 fn names_well(parts: &Parts, operand: Operand) -> bool

@@ -7,11 +7,9 @@ use crate::calls::is_procedure;
 use crate::checks::{NumberedChecks, check_each};
 use crate::entities::{entity_of, is_no_other_kind, is_there};
 use crate::targets::{block_of, is_block};
-use gw_code::{Instruction, Procedure};
-use gw_object::{Entity, Fault, Parts, Place};
-use gw_operands::{argument_in, as_operand, is_drawn};
+use gw_object::{Entity, Fault, Instruction, Parts, Place, Procedure};
 use gw_rules::kinds_codes::{BAD_CONSTANT, NO_BLOCK, NO_ENTITY, WRONG_KIND};
-use gw_rules::{Named, check};
+use gw_rules::{Named, argument_in, as_operand, check, is_drawn};
 
 /// The most times that a jump back may be taken.
 const MOST_TURNS: u32 = 1_000_000;
@@ -105,7 +103,7 @@ impl NumberedChecks<Instruction> for Instructions {
 pub(crate) struct Procedures;
 
 impl NumberedChecks<Procedure> for Procedures {
-    ghost use Rattle.gw_code.specs.Grammar.{ProcedureFits};
+    ghost use Rattle.gw_object.specs.CodeGrammar.{ProcedureFits};
 
     ghost checks = { λ _. model.procedure_checks };
 

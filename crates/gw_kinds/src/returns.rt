@@ -4,8 +4,7 @@ ghost use Rattle.std.specs.Prelude.{◌≡◌};
 ghost use Rattle.gw_rules.specs.Kinds as model;
 
 use crate::checks::NumberedChecks;
-use gw_blocks::Block;
-use gw_object::{Fault, Parts, Place, ReturnRow};
+use gw_object::{Block, Fault, Parts, Place, ReturnRow};
 use gw_rules::kinds_codes::WRONG_KIND;
 use gw_rules::{check, is_call};
 

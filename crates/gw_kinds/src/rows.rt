@@ -2,14 +2,13 @@
 
 ghost use Rattle.std.specs.Prelude.{◌≡◌, Some, map};
 ghost use Rattle.gw_rules.specs.Checks.{Finds};
-ghost use Rattle.gw_blocks.specs.declared.parts.Units.{Units};
+ghost use Rattle.gw_object.specs.declared.blocks.Units.{Units};
 ghost use Rattle.gw_rules.specs.Kinds as model;
 ghost use Rattle.gw_rules.specs.declared.entities.EntityKind.TheVariants as needed;
 
 use crate::checks::NumberedChecks;
 use crate::entities::{is_no_other_kind, is_there};
-use gw_blocks::Units;
-use gw_object::{Entity, Fault, Parts, Place, ReturnRow, TableKind, TableState, chains_in};
+use gw_object::{Entity, Fault, Parts, Place, ReturnRow, TableKind, TableState, Units, chains_in};
 use gw_rules::kinds_codes::{NO_ENTITY, WRONG_KIND};
 use gw_rules::{EntityKind, Named, chain_row, check, needs};
 

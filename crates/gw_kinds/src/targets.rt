@@ -4,9 +4,8 @@ ghost use Rattle.std.specs.Prelude.{◌≡◌, ◌≤◌, ◌+◌, Some};
 ghost use Rattle.gw_rules.specs.Kinds as model;
 
 use crate::entities::needed_for;
-use gw_blocks::{Block, Numbered, Operand};
-use gw_operands::values;
-use gw_rules::{Way, exits, leads_to, other_way};
+use gw_object::{Block, Numbered, Operand};
+use gw_rules::{Way, exits, leads_to, other_way, values};
 
 /// Whether there is a block of this number, from 1.
 pub(crate) fn is_block(blocks: &[Block], number: u16) -> bool

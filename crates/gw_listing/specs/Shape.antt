@@ -1,7 +1,7 @@
 -- What the lines of a listing begin with: one for each part of the object.
 use Rattle.std.specs.Prelude.{ℕ, ◌+◌, List, [], ◌∷◌, ◌++◌, length, codes, if◌then◌else◌, ◌==◌, slice_get, slice_index_or, Option, Some, None}
 use Rattle.std.specs.Fmt.{decimal}
-use Rattle.gw_code.specs.declared.parts.Procedure.{Procedure}
+use Rattle.gw_object.specs.declared.code.Procedure.{Procedure}
 use Rattle.gw_object.specs.declared.parts.Parts.{Parts}
 use Rattle.gw_source_lines.specs.Sites.{Sites}
 use Rattle.gw_listing.specs.Lines.{Opening, Whole, Front, openings_below}

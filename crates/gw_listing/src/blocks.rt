@@ -2,11 +2,11 @@
 
 use crate::operands::{mode_sign, put_name, put_operand, put_spread, put_units};
 use crate::text::put_optional;
-use gw_blocks::{
-    Assign, Block, Both, Call, Comparison, Condition, Fraction, Gate, Generate, Link, LinkOrder,
-    Logic, Loop, Operand, Plus, Priority, Save, Split, Spread, SwitchAction, Test, Units, Unlink,
+use gw_object::{
+    Assign, Block, Both, Call, Comparison, Condition, Entity, Fraction, Gate, Generate, Link,
+    LinkOrder, Logic, Loop, Memory, Operand, Plus, Priority, Save, Split, Spread, SwitchAction,
+    Test, Units, Unlink,
 };
-use gw_object::{Entity, Memory};
 use gw_report::text::{put, put_number};
 
 fn put_generate(out: &mut Vec<u8>, entities: &[Entity], generate: Generate) -> Result<(), Memory> {

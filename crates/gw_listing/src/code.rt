@@ -8,9 +8,8 @@ ghost use Rattle.gw_listing.specs.Shape.{procedure_front, procedure_head, takes_
 use crate::operands::{put_attribute, put_numbered};
 use crate::sections::{Section, put_section};
 use crate::text::end_line;
-use gw_code::{Back, Instruction, Procedure, Sna};
 use gw_num::{Binary, Unary};
-use gw_object::{Entity, Memory, Parts};
+use gw_object::{Back, Entity, Instruction, Memory, Parts, Procedure, Sna};
 use gw_report::text::{put, put_number};
 use std::alloc::Global;
 

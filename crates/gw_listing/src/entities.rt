@@ -1,9 +1,8 @@
 //! Entities, and the rows of the state table.
 
 use crate::operands::{put_name, put_operand, put_units};
-use gw_blocks::Units;
 use gw_object::{
-    Entity, Function, Kind, Memory, ReturnRow, Table, TableKind, TableParameter, TableState,
+    Entity, Function, Kind, Memory, ReturnRow, Table, TableKind, TableParameter, TableState, Units,
 };
 use gw_report::text::{put, put_number};
 

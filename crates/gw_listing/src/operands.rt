@@ -1,7 +1,8 @@
 //! Operands, as a text has them, but that blocks and procedures have numbers.
 
-use gw_blocks::{Attribute, EntityAttribute, Mode, Numbered, Operand, Spread, Units};
-use gw_object::{Entity, Memory};
+use gw_object::{
+    Attribute, Entity, EntityAttribute, Memory, Mode, Numbered, Operand, Spread, Units,
+};
 use gw_report::text::{put, put_number};
 
 /// The name of an entity, by its number from 0.

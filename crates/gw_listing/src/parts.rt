@@ -9,8 +9,7 @@ ghost use Rattle.gw_listing.specs.Shape as shape;
 
 use crate::code::{put_code, put_head};
 use crate::sections::{Section, put_section};
-use gw_code::Procedure;
-use gw_object::{Memory, Parts};
+use gw_object::{Memory, Parts, Procedure};
 use gw_report::text::{put, put_number};
 use gw_source_lines::Sources;
 use std::alloc::Global;

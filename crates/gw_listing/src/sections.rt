@@ -9,8 +9,7 @@ use crate::blocks::put_block;
 use crate::code::put_instruction;
 use crate::entities::{put_entity, put_return_row, put_state};
 use crate::text::{end_line, put_slope_at, put_told};
-use gw_code::Instruction;
-use gw_object::{Memory, Parts};
+use gw_object::{Instruction, Memory, Parts};
 use gw_report::text::{put, put_number};
 use std::alloc::Global;
 

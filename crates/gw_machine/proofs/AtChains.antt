@@ -3,9 +3,9 @@ use Rattle.std.proofs.Common.{◌≡◌, ℕ, suc, ◌≤◌, ◌<◌, List, [],
 use Rattle.std.specs.Prelude.{int_le}
 use Rattle.std.specs.List.{AllByRecursion}
 use Rattle.std.specs.Option.{option_map_or}
-use Rattle.gw_blocks.specs.declared.parts.LinkOrder.{LinkOrder}
-use Rattle.gw_blocks.specs.declared.parts.LinkOrder.TheVariants.{Fifo, Lifo}
-use Rattle.gw_blocks.specs.declared.parts.Link.{Link}
+use Rattle.gw_object.specs.declared.blocks.LinkOrder.{LinkOrder}
+use Rattle.gw_object.specs.declared.blocks.LinkOrder.TheVariants.{Fifo, Lifo}
+use Rattle.gw_object.specs.declared.blocks.Link.{Link}
 use Rattle.gw_members.specs.Chain.{Chain, behind, first, rest}
 use Rattle.gw_user_chains.specs.Linked as chain_lists
 use Rattle.gw_members.specs.Lists.{apply_at}

@@ -9,29 +9,29 @@ use Rattle.std.proofs.lemmas.List.Elements.{All-head, All-tail}
 use Rattle.gw_num.specs.Table.{at}
 use Rattle.gw_num.proofs.Tables.{at-replicate, at-get_or_any}
 use Rattle.gw_num.specs.Generator.{next_after}
-use Rattle.gw_blocks.specs.Grammar.{OperandFits}
-use Rattle.gw_blocks.specs.declared.parts.EntityAttribute.{EntityAttribute}
-use Rattle.gw_blocks.specs.declared.parts.EntityAttribute.TheVariants.{VariableValue, BooleanValue, FunctionValue}
-use Rattle.gw_blocks.specs.declared.parts.Operand.{Operand}
-use Rattle.gw_blocks.specs.declared.parts.Operand.TheVariants.{Constant, Parameter, Attribute, OfEntity, Random, Procedure}
-use Rattle.gw_code.specs.declared.parts.Procedure.{Procedure as Code}
+use Rattle.gw_object.specs.BlockGrammar.{OperandFits}
+use Rattle.gw_object.specs.declared.blocks.EntityAttribute.{EntityAttribute}
+use Rattle.gw_object.specs.declared.blocks.EntityAttribute.TheVariants.{VariableValue, BooleanValue, FunctionValue}
+use Rattle.gw_object.specs.declared.blocks.Operand.{Operand}
+use Rattle.gw_object.specs.declared.blocks.Operand.TheVariants.{Constant, Parameter, Attribute, OfEntity, Random, Procedure}
+use Rattle.gw_object.specs.declared.code.Procedure.{Procedure as Code}
 use Rattle.gw_object.specs.Entities.{EntityFits, KindFits}
 use Rattle.gw_object.specs.Grammar.{HasSpelling}
 use Rattle.gw_object.specs.declared.parts.Entity.{Entity}
 use Rattle.gw_object.specs.declared.parts.Kind.{Kind}
 use Rattle.gw_object.specs.declared.parts.Kind.TheVariants as kinds
 use Rattle.gw_object.specs.declared.parts.Parts.{Parts}
-use Rattle.gw_operands.specs.Sources.{operand_of, operand_at, if_function, if_variable, argument_in, call_in, source_of}
+use Rattle.gw_rules.specs.Sources.{operand_of, operand_at, if_function, if_variable, argument_in, call_in, source_of}
 use Rattle.gw_rules.specs.KindsLaws.{OperandHolds}
-use Rattle.gw_operands.specs.declared.ends.PlusEnd.{PlusEnd}
-use Rattle.gw_operands.specs.Code.{procedure_at, asked_by_source}
-use Rattle.gw_operands.specs.Environment.{Environment, kept_value, ReadTheSame}
+use Rattle.gw_rules.specs.declared.ends.PlusEnd.{PlusEnd}
+use Rattle.gw_rules.specs.Code.{procedure_at, asked_by_source}
+use Rattle.gw_rules.specs.Environment.{Environment, kept_value, ReadTheSame}
 use Rattle.gw_rules.specs.PlusLaws.{HasSet, MayBegin}
-use Rattle.gw_operands.specs.Meaning.{Evaluates, opening_frame}
-use Rattle.gw_operands.specs.Outcome.{outcome_of}
+use Rattle.gw_rules.specs.Meaning.{Evaluates, opening_frame}
+use Rattle.gw_rules.specs.Outcome.{outcome_of}
 use Rattle.gw_rules.proofs.PlusTheorems.{one_outcome_law, outcomes_are_evaluated_law}
 use Rattle.gw_rules.proofs.Within.{outcomes_depend_on_what_is_kept}
-use Rattle.gw_operands.specs.Values.{Value, ◌>>=◌, drawn_below, came_to, if_set, source_value}
+use Rattle.gw_rules.specs.Values.{Value, ◌>>=◌, drawn_below, came_to, if_set, source_value}
 use Rattle.gw_rules.specs.Accepted.{Checked}
 use Rattle.gw_rules.proofs.AllPass.{kinds_pass, plus_passes}
 use Rattle.gw_plus.specs.declared.env.Env.{Env}

@@ -1,9 +1,9 @@
 -- Slots for parameters.
 use Rattle.std.proofs.Common.{◌≡◌, ℕ, zero, suc, ◌≤◌, List, [], ◌∷◌, Option, Some, None, ap, refl, arith}
 use Rattle.std.specs.Prelude.{slice_get, unwrap_or, IfSome}
-use Rattle.gw_blocks.specs.declared.parts.Block.{Block}
+use Rattle.gw_object.specs.declared.blocks.Block.{Block}
 use Rattle.gw_rules.specs.Kinds.{block_at}
-use Rattle.gw_blocks.specs.declared.parts.Block.TheVariants as blocks
+use Rattle.gw_object.specs.declared.blocks.Block.TheVariants as blocks
 use Rattle.gw_step.specs.Operands.{IsParameter, OperandsFit, BlocksFit}
 use Rattle.gw_machine.specs.Slots.{set_by, greatest_set}
 

@@ -5,17 +5,17 @@ use Rattle.std.specs.Option.{option_map_or}
 use Rattle.std.proofs.lemmas.List.{length-map}
 use Rattle.std.proofs.lemmas.List.Sums.{count_by-le-length}
 use Rattle.gw_num.specs.Table.{at}
-use Rattle.gw_blocks.specs.declared.parts.EntityAttribute.{EntityAttribute}
-use Rattle.gw_blocks.specs.declared.parts.EntityAttribute.TheVariants.{ChainMembers, BlockCount}
-use Rattle.gw_blocks.specs.declared.parts.Operand.{Operand}
-use Rattle.gw_blocks.specs.declared.parts.Operand.TheVariants.{Parameter, OfEntity}
+use Rattle.gw_object.specs.declared.blocks.EntityAttribute.{EntityAttribute}
+use Rattle.gw_object.specs.declared.blocks.EntityAttribute.TheVariants.{ChainMembers, BlockCount}
+use Rattle.gw_object.specs.declared.blocks.Operand.{Operand}
+use Rattle.gw_object.specs.declared.blocks.Operand.TheVariants.{Parameter, OfEntity}
 use Rattle.gw_object.specs.declared.parts.Parts.{Parts}
 use Rattle.gw_entities.specs.Attributes.{attribute_of}
 use Rattle.gw_entities.specs.declared.facilities.Facility.{Facility}
 use Rattle.gw_entities.specs.declared.storages.Storage.{Storage}
 use Rattle.gw_entities.specs.declared.contents.Contents.{Contents}
 use Rattle.gw_entities.specs.Numbered.{ByNumber}
-use Rattle.gw_operands.specs.Environment.{kept_value, ReadTheSame}
+use Rattle.gw_rules.specs.Environment.{kept_value, ReadTheSame}
 use Rattle.gw_user_chains.specs.Linked as chain_lists
 use Rattle.gw_transactions.specs.Transactions.{LiveTransaction, here_count}
 use Rattle.gw_plus.specs.declared.env.Env.{Env}

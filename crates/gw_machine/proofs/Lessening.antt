@@ -5,8 +5,8 @@ use Rattle.std.specs.Prelude.{nat_le}
 use Rattle.std.specs.Option.{option_map_or}
 use Rattle.std.proofs.lemmas.Bool.{cases_eq, eq-eqb, ne_eqb, leb-true, leb-false, lt-leb}
 use Rattle.std.proofs.lemmas.List.Sums.{sum_by-cons}
-use Rattle.gw_blocks.specs.declared.parts.Block.{Block}
-use Rattle.gw_blocks.specs.declared.parts.Units.{Units}
+use Rattle.gw_object.specs.declared.blocks.Block.{Block}
+use Rattle.gw_object.specs.declared.blocks.Units.{Units}
 use Rattle.gw_rules.specs.Kinds.{block_at}
 use Rattle.gw_step.specs.Blocks.{units_asked, admit_by, looked_at, admission}
 use Rattle.gw_step.specs.Changes.{storage}

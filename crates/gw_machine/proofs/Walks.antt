@@ -5,7 +5,7 @@ use Rattle.std.specs.Prelude.{slice_get, remove, sum_by}
 use Rattle.std.proofs.lemmas.List.{length-map}
 use Rattle.std.proofs.lemmas.List.Sums.{sum_by-cons}
 use Rattle.std.specs.Option.{option_map_or}
-use Rattle.gw_blocks.specs.declared.parts.Block.{Block}
+use Rattle.gw_object.specs.declared.blocks.Block.{Block}
 use Rattle.gw_num.specs.Table.{at}
 use Rattle.gw_members.specs.declared.tx.Tx.{Tx}
 use Rattle.gw_members.specs.declared.tx.Member.{Member}
@@ -20,8 +20,8 @@ use Rattle.gw_step.specs.Operands.{BlocksFit}
 use Rattle.gw_step.proofs.Outcomes.{choose, by_option}
 use Rattle.gw_entities.specs.Storage.{has_room, with_entries}
 use Rattle.gw_rules.specs.Kinds.{block_at}
-use Rattle.gw_blocks.specs.declared.parts.Units.{Units}
-use Rattle.gw_blocks.specs.declared.parts.Block.TheVariants as blocks
+use Rattle.gw_object.specs.declared.blocks.Units.{Units}
+use Rattle.gw_object.specs.declared.blocks.Block.TheVariants as blocks
 use Rattle.gw_transactions.specs.declared.Transaction.{Transaction}
 use Rattle.std.proofs.lemmas.Bool.{leb-true}
 use Rattle.gw_step.specs.Residence.{occurrences}

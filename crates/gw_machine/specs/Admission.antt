@@ -1,7 +1,7 @@
 -- Where a storage admits nobody.
 use Rattle.std.specs.Prelude.{◌≡◌, ◌<◌, ◌⊎◌, ℕ, List, Some, None, true, false}
-use Rattle.gw_blocks.specs.declared.parts.Block.{Block}
-use Rattle.gw_blocks.specs.declared.parts.Units.{Units}
+use Rattle.gw_object.specs.declared.blocks.Block.{Block}
+use Rattle.gw_object.specs.declared.blocks.Units.{Units}
 use Rattle.gw_entities.specs.Storage.{has_room}
 use Rattle.gw_rules.specs.Kinds.{block_at}
 use Rattle.gw_step.specs.Blocks.{units_asked, admission, is_full}

@@ -1,7 +1,7 @@
 -- What a machine keeps beside the state that it is in: its handles lead to the transactions of their numbers.
 use Rattle.std.specs.Prelude.{◌≡◌, ◌≢◌, ℕ, ℤ, ◌<◌, ◌≤◌, ◌^◌, pos, ◌<ℤ◌, length, List, [], ◌∷◌, Option, IfSome, Some, None}
 use Rattle.std.specs.List.{AllByRecursion}
-use Rattle.gw_blocks.specs.declared.parts.Block.{Block}
+use Rattle.gw_object.specs.declared.blocks.Block.{Block}
 use Rattle.gw_object.specs.declared.parts.Parts.{Parts}
 use Rattle.gw_members.specs.Chain.{Chain, all_behind}
 use Rattle.gw_members.specs.Members.{due_events}

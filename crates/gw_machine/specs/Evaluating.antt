@@ -1,13 +1,13 @@
 -- Evaluating operands: for whom, what may be read of a machine, and what is answered.
 use Rattle.std.specs.Prelude.{◌≡◌, ℕ, ◌≤◌, ◌^◌, ℤ, pos, ◌≤ℤ◌, sum, List, Option, Some, None, IfSome, Result, Ok, Err}
-use Rattle.gw_blocks.specs.declared.parts.Operand.{Operand}
-use Rattle.gw_blocks.specs.declared.parts.Spread.{Spread}
+use Rattle.gw_object.specs.declared.blocks.Operand.{Operand}
+use Rattle.gw_object.specs.declared.blocks.Spread.{Spread}
 use Rattle.gw_members.specs.declared.tx.Tx.{Tx}
 use Rattle.gw_object.specs.declared.parts.Parts.{Parts}
-use Rattle.gw_operands.specs.declared.ends.PlusEnd.{PlusEnd}
-use Rattle.gw_operands.specs.Environment.{Environment}
+use Rattle.gw_rules.specs.declared.ends.PlusEnd.{PlusEnd}
+use Rattle.gw_rules.specs.Environment.{Environment}
 use Rattle.gw_step.specs.declared.ends.End.{End}
-use Rattle.gw_operands.specs.Values.{Evaluation, Value, Fails, source_value, operand_value, drawn_time}
+use Rattle.gw_rules.specs.Values.{Evaluation, Value, Fails, source_value, operand_value, drawn_time}
 use Rattle.gw_transactions.specs.declared.Transaction.{Transaction}
 use Rattle.gw_transactions.specs.Parameters.{no_parameters}
 use Rattle.gw_transactions.specs.Transactions.{Holds}

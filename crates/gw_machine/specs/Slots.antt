@@ -1,7 +1,7 @@
 -- How many slots each transaction has for parameters.
 use Rattle.std.specs.Prelude.{ℕ, max, List, [], ◌∷◌, unwrap_or}
-use Rattle.gw_blocks.specs.declared.parts.Block.{Block}
-use Rattle.gw_blocks.specs.declared.parts.Block.TheVariants as blocks
+use Rattle.gw_object.specs.declared.blocks.Block.{Block}
+use Rattle.gw_object.specs.declared.blocks.Block.TheVariants as blocks
 
 -- the parameter that a block sets, by its number; 0 where it sets none
 abbrev pub set_by : Block → ℕ

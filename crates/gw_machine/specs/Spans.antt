@@ -1,11 +1,11 @@
 -- Times of a span, which are those of a spread of constants.
 use Rattle.std.specs.Prelude.{◌≡◌, ℕ, ◌+◌, ℤ, pos, List, Result, Ok, Err}
-use Rattle.gw_blocks.specs.declared.parts.Operand.TheVariants.{Constant}
-use Rattle.gw_blocks.specs.declared.parts.Spread.{Spread}
+use Rattle.gw_object.specs.declared.blocks.Operand.TheVariants.{Constant}
+use Rattle.gw_object.specs.declared.blocks.Spread.{Spread}
 use Rattle.gw_machine.specs.declared.times.Span.{Span}
 use Rattle.gw_object.specs.declared.parts.Parts.{Parts}
-use Rattle.gw_operands.specs.Environment.{Environment}
-use Rattle.gw_operands.specs.Values.{with_first}
+use Rattle.gw_rules.specs.Environment.{Environment}
+use Rattle.gw_rules.specs.Values.{with_first}
 use Rattle.gw_step.specs.Outcome.{Outcome, Gives, EndsBy}
 use Rattle.gw_step.specs.Times.{drawn_moment}
 use Rattle.gw_step.specs.declared.ends.End.{End}

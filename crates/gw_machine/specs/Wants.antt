@@ -1,7 +1,7 @@
 -- What is known of those who wait on delay lists: which blocks they want to enter.
 use Rattle.std.specs.Prelude.{◌≡◌, ◌≢◌, ℕ, ◌+◌, ◌<◌, ◌≤◌, ◌⊎◌, ◌==◌, if◌then◌else◌, nat_le, List, [], ◌∷◌, map, length, sum_by, Option, None, Some}
-use Rattle.gw_blocks.specs.declared.parts.Block.{Block}
-use Rattle.gw_blocks.specs.declared.parts.Units.{Units}
+use Rattle.gw_object.specs.declared.blocks.Block.{Block}
+use Rattle.gw_object.specs.declared.blocks.Units.{Units}
 use Rattle.gw_num.specs.Table.{at}
 use Rattle.gw_rules.specs.Kinds.{block_at}
 use Rattle.gw_transactions.specs.Transactions.{LiveTransaction}

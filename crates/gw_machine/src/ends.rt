@@ -1,12 +1,12 @@
 //! The named ends that evaluations and arithmetic bring.
 
 ghost use Rattle.std.specs.Prelude.{◌≡◌};
-ghost use Rattle.gw_operands.specs.Meaning as code;
+ghost use Rattle.gw_rules.specs.Meaning as code;
 ghost use Rattle.gw_step.specs.Outcome as outcomes;
 
 use gw_num::NumFault;
-use gw_operands::PlusEnd;
 use gw_plus::ended_by;
+use gw_rules::PlusEnd;
 use gw_step::End;
 
 /// The named end that the end of an evaluation brings.

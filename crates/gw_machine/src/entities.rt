@@ -18,9 +18,9 @@ ghost use Rattle.gw_machine.specs.Entities.{facility_by, storage_by, queue_by, s
 ghost use Rattle.gw_machine.specs.Frames.{HasAsManyEntities, OnlyEntitiesChange};
 
 use crate::machine::Machine;
-use gw_blocks::{Condition, Logic, SwitchAction, Units};
 use gw_entities::{Facility, Storage};
 use gw_num::NumFault;
+use gw_object::{Condition, Logic, SwitchAction, Units};
 
 /// Whether the transaction of this number has to wait for a facility, since another owns it.
 fn is_anothers(facility: Facility, number: u64) -> bool

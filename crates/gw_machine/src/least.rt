@@ -12,7 +12,7 @@ ghost use Rattle.gw_machine.specs.Wants.{IsKnown, IsLeast, lesser as lesser_of, 
 use crate::machine::{Machine, entry_or_none};
 use crate::transfers::{asked, block_of};
 use crate::wants::{Want, are_told, count_newcomer};
-use gw_blocks::{Block, Units};
+use gw_object::{Block, Units};
 
 /// From how many waiters on those of a delay list are counted by the blocks that they want to enter.
 const MANY: usize = 64;

@@ -3,7 +3,7 @@
 ghost use Rattle.std.specs.Prelude.{◌≡◌, ◌≤◌, ◌<◌, ◌+◌, ◌^◌, Some, None, length, vec_len, sum, IfOk, OnOk, pos, ◌<ℤ◌, ◌≤ℤ◌, nat_le};
 ghost use Rattle.gw_num.specs.Table.{at};
 ghost use Rattle.gw_transactions.specs.Transactions.{Holds, attributes_at, live_count};
-ghost use Rattle.gw_operands.specs.Values.{with_first};
+ghost use Rattle.gw_rules.specs.Values.{with_first};
 ghost use Rattle.gw_step.specs.State.{priority_of, with_one_more_at, with_streams};
 ghost use Rattle.gw_step.specs.Blocks.{is_owed};
 ghost use Rattle.gw_step.specs.Changes as model;

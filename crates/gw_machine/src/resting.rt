@@ -12,8 +12,8 @@ ghost use Rattle.gw_machine.specs.Frames.{OnlyEventsChange, OnlyWaking, KeepsRoo
 
 use crate::machine::Machine;
 use gw_assemblies::Assembly;
-use gw_blocks::{Link, LinkOrder};
 use gw_members::{Memory, Tx};
+use gw_object::{Link, LinkOrder};
 use gw_step::{Assembling, Placement};
 
 impl Machine {

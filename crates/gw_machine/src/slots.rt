@@ -3,7 +3,7 @@
 ghost use Rattle.std.specs.Prelude.{◌≡◌};
 ghost use Rattle.gw_machine.specs.Slots as model;
 
-use gw_blocks::Block;
+use gw_object::Block;
 
 /// The parameter that a block sets, by its number; 0 where it sets none.
 fn set_by(block: &Block) -> u8

@@ -11,11 +11,10 @@ ghost use Rattle.gw_machine.specs.Spans.{DrawsMoment};
 use crate::ends::{end_by, end_by_fault};
 use crate::machine::Machine;
 use crate::values::Subject;
-use gw_blocks::Spread;
 use gw_num::{NumFault, Stream, add};
-use gw_operands::PlusEnd;
+use gw_object::Spread;
 use gw_plus::ended_by;
-use gw_rules::Verified;
+use gw_rules::{PlusEnd, Verified};
 use gw_step::End;
 
 /// Times to draw from, each as likely as the others: from a least one to twice a half-range more, in clock units.

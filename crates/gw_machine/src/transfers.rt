@@ -20,8 +20,8 @@ ghost use Rattle.gw_machine.specs.Entities.{HasStorage, CanCountEntries, CanCoun
 ghost use Rattle.gw_machine.specs.Frames.{KeepsFacilities, OnlyEntryIsMade};
 
 use crate::machine::{Machine, entry_or_none, raise};
-use gw_blocks::{Block, Units};
 use gw_members::Tx;
+use gw_object::{Block, Units};
 use gw_transactions::Transaction;
 
 /// The block of a number, from 1, if there is one.

@@ -2,14 +2,14 @@
 
 ghost use Rattle.std.specs.Prelude.{◌≡◌, ◌≤◌, ◌<◌, ◌%◌, None, IfSome};
 ghost use Rattle.gw_num.specs.Generator as generator;
-ghost use Rattle.gw_blocks.specs.Grammar.{OperandFits};
+ghost use Rattle.gw_object.specs.BlockGrammar.{OperandFits};
 ghost use Rattle.gw_object.specs.Grammar.{HasSpelling};
 ghost use Rattle.gw_object.specs.declared.parts.Parts.{Parts};
 ghost use Rattle.gw_rules.specs.KindsLaws.{OperandHolds};
-ghost use Rattle.gw_operands.specs.Code.{asked_by_source};
-ghost use Rattle.gw_operands.specs.Environment.{ReadTheSame};
+ghost use Rattle.gw_rules.specs.Code.{asked_by_source};
+ghost use Rattle.gw_rules.specs.Environment.{ReadTheSame};
 ghost use Rattle.gw_rules.specs.PlusLaws.{HasSet};
-ghost use Rattle.gw_operands.specs.Values as values;
+ghost use Rattle.gw_rules.specs.Values as values;
 ghost use Rattle.gw_rules.specs.Accepted.{Checked};
 ghost use Rattle.gw_plus.specs.Reading as lent;
 ghost use Rattle.gw_transactions.specs.Transactions.{Holds};
@@ -19,12 +19,11 @@ ghost use Rattle.gw_machine.specs.Coherence.{IsOf};
 ghost use Rattle.gw_machine.specs.Evaluating.{subject_of, parameters_for, IsReadable, CanEvaluate, environment_in, next_environment_in, EvaluatesSource, EvaluatesOperand};
 
 use crate::machine::Machine;
-use gw_blocks::{EntityAttribute, Numbered, Operand};
 use gw_members::Tx;
 use gw_num::Stream;
-use gw_operands::{PlusEnd, operand_value, source_of};
+use gw_object::{EntityAttribute, Numbered, Operand};
 use gw_plus::{Env, eval};
-use gw_rules::Verified;
+use gw_rules::{PlusEnd, Verified, operand_value, source_of};
 use gw_transactions::{Parameters, Transaction};
 
 /// For whom operands are evaluated: the active transaction, or the next that is to arrive.

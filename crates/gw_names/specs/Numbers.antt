@@ -1,6 +1,6 @@
 -- The numbers of names, as functions.
-use Rattle.gw_blocks.specs.declared.parts.Operand.TheVariants as operands
-use Rattle.gw_operands.specs.Sources.{source_of}
+use Rattle.gw_object.specs.declared.blocks.Operand.TheVariants as operands
+use Rattle.gw_rules.specs.Sources.{source_of}
 use Rattle.gw_compile.specs.Numbers.{Numbers}
 use Rattle.gw_names.specs.declared.names.Names.{Names}
 use Rattle.gw_names.specs.Known.{found_in, entity_of}

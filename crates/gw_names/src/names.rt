@@ -3,11 +3,9 @@
 ghost use Rattle.gw_names.specs.Numbers.{numbers_of};
 
 use crate::entities::EntityNames;
-use gw_blocks::{Numbered, Operand};
 use gw_compile::{Callee, Equ, Numbering};
-use gw_object::Entity;
-use gw_operands::source_of;
-use gw_rules::EntityKind;
+use gw_object::{Entity, Numbered, Operand};
+use gw_rules::{EntityKind, source_of};
 use indexmap::IndexMap;
 
 /// The numbers that names have, and the entities of the object, in order of their numbers.

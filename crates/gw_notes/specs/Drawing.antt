@@ -2,15 +2,14 @@
 use Rattle.std.specs.Prelude.{ℕ, ◌+◌, pos, Bool, false, ◌&&◌, not, nat_eq, nat_lt, List, Option, None, Some, if◌then◌else◌}
 use Rattle.std.specs.List.{list_any}
 use Rattle.std.specs.Ordering.{int_eq}
-use Rattle.gw_blocks.specs.declared.parts.Operand.{Operand}
-use Rattle.gw_blocks.specs.declared.parts.Operand.TheVariants.{Constant, Random}
-use Rattle.gw_blocks.specs.declared.parts.Spread.{Spread}
-use Rattle.gw_blocks.specs.declared.parts.Block.{Block}
-use Rattle.gw_blocks.specs.declared.parts.Block.TheVariants.{Generate, Advance, TransferByFraction, Terminate, Assign, Savevalue, Test, Priority}
-use Rattle.gw_blocks.specs.declared.parts.Block.TheVariants.{Plus, Tabulate}
+use Rattle.gw_object.specs.declared.blocks.Operand.{Operand}
+use Rattle.gw_object.specs.declared.blocks.Operand.TheVariants.{Constant, Random}
+use Rattle.gw_object.specs.declared.blocks.Spread.{Spread}
+use Rattle.gw_object.specs.declared.blocks.Block.{Block}
+use Rattle.gw_object.specs.declared.blocks.Block.TheVariants.{Generate, Advance, TransferByFraction, Terminate, Assign, Savevalue, Test, Priority, Plus, Tabulate}
 use Rattle.gw_object.specs.declared.parts.Entity.{Entity}
 use Rattle.gw_object.specs.declared.parts.Parts.{Parts}
-use Rattle.gw_operands.specs.Sources.{source_of, operand_at}
+use Rattle.gw_rules.specs.Sources.{source_of, operand_at}
 
 -- an operand is RN of this stream
 abbrev pub is_random : ℕ → Operand → Bool

@@ -1,8 +1,8 @@
 -- Which blocks join a queue, depart from it, or count.
 use Rattle.std.specs.Prelude.{ℕ, Bool, false, ◌&&◌, not, nat_eq}
 use Rattle.std.specs.List.{list_any}
-use Rattle.gw_blocks.specs.declared.parts.Block.{Block}
-use Rattle.gw_blocks.specs.declared.parts.Block.TheVariants.{Queue, Depart, Terminate}
+use Rattle.gw_object.specs.declared.blocks.Block.{Block}
+use Rattle.gw_object.specs.declared.blocks.Block.TheVariants.{Queue, Depart, Terminate}
 use Rattle.gw_object.specs.declared.parts.Parts.{Parts}
 use Rattle.gw_notes.specs.Drawing.{is_zero}
 

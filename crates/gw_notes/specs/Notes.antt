@@ -2,8 +2,8 @@
 use Rattle.std.specs.Prelude.{◌≡◌, ◌<◌, ℕ, ◌+◌, List, [], ◌∷◌, codes, length, drop, Bool, true, ◌&&◌, Some, slice_get, map, Contains, nat_eq}
 use Rattle.std.specs.List.{list_any, starts_with}
 use Rattle.gw_num.specs.Numerals.{is_number}
-use Rattle.gw_blocks.specs.declared.parts.Operand.{Operand}
-use Rattle.gw_blocks.specs.declared.parts.Block.TheVariants.{Terminate}
+use Rattle.gw_object.specs.declared.blocks.Operand.{Operand}
+use Rattle.gw_object.specs.declared.blocks.Block.TheVariants.{Terminate}
 use Rattle.gw_object.specs.declared.parts.Entity.{Entity}
 use Rattle.gw_object.specs.declared.parts.Parts.{Parts}
 use Rattle.gw_object.specs.declared.parts.TableState.{TableState}

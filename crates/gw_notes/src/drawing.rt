@@ -3,9 +3,8 @@
 ghost use Rattle.std.specs.Prelude.{◌≡◌, ◌≤◌};
 ghost use Rattle.gw_notes.specs.Drawing as model;
 
-use gw_blocks::{Block, Operand, Spread};
-use gw_object::{Entity, Parts};
-use gw_operands::{operand_at, source_of};
+use gw_object::{Block, Entity, Operand, Parts, Spread};
+use gw_rules::{operand_at, source_of};
 
 /// Whether an operand is RN of a stream.
 fn is_random(operand: Operand, stream: u8) -> bool

@@ -10,8 +10,7 @@ ghost use Rattle.gw_notes.specs.Notes.{Holds, HoldsUnits};
 
 use crate::drawing::draws;
 use crate::queues::{nothing_counts, only_grows};
-use gw_blocks::{Block, Units};
-use gw_object::{Memory, Parts};
+use gw_object::{Block, Memory, Parts, Units};
 use std::alloc::Global;
 
 /// Something that is noted of a model.

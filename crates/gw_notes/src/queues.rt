@@ -5,8 +5,7 @@ ghost use Rattle.std.specs.List.{list_any};
 ghost use Rattle.gw_notes.specs.Flowing as model;
 
 use crate::drawing::is_zero;
-use gw_blocks::Block;
-use gw_object::Parts;
+use gw_object::{Block, Parts};
 
 /// Whether a block joins the queue of an entity.
 fn joins(block: &Block, entity: u16) -> bool

@@ -4,10 +4,8 @@ use Rattle.std.specs.Prelude.{Option, Some, None, IfSome, nat_lt}
 use Rattle.std.specs.List.{All, AllPairs, zip}
 use Rattle.std.specs.Int.{w16, w32, w64}
 use Rattle.gw_object.specs.Codes as codes
-use Rattle.gw_object.specs.Limits.{most_bytes, most_seeds, greatest_seed, greatest_count, most_entities, greatest_units, most_procedures, most_blocks}
-use Rattle.gw_object.specs.Limits.{most_return_rows, greatest_weight}
-use Rattle.gw_blocks.specs.Limits.{most_parameters}
-use Rattle.gw_blocks.specs.declared.parts.Units.{Units}
+use Rattle.gw_object.specs.Limits.{most_bytes, most_seeds, greatest_seed, greatest_count, most_entities, greatest_units, most_procedures, most_blocks, most_return_rows, greatest_weight, most_parameters}
+use Rattle.gw_object.specs.declared.blocks.Units.{Units}
 use Rattle.gw_object.specs.declared.parts.TableKind.{TableKind}
 use Rattle.gw_object.specs.declared.parts.TableKind.TheVariants.{Num, Ret}
 use Rattle.gw_object.specs.declared.parts.TableParameter.{TableParameter}
@@ -16,9 +14,9 @@ use Rattle.gw_object.specs.declared.parts.ReturnRow.{ReturnRow}
 use Rattle.gw_object.specs.declared.parts.Parts.{Parts}
 use Rattle.gw_fields.specs.Fields.{Read, Field, number, as_type, field_with_test, both, and_then, constant, field_that_fits, number_between, optional}
 use Rattle.gw_fields.specs.Fields.{Form, behind, by_tag, nothing, Element, plain, last_tested, ascending_element, above_last, elements, list_of}
-use Rattle.gw_code.specs.Grammar.{ProcedureFits, NeedsAscend, procedure}
+use Rattle.gw_object.specs.CodeGrammar.{ProcedureFits, NeedsAscend, procedure}
 use Rattle.gw_object.specs.Entities.{entity, EntityFits, EntityAscends, IsLettered, AreNamesakes, chains_in}
-use Rattle.gw_blocks.specs.Grammar.{entity_number, block_number, parameter_number, IsOfVersion, BlockFits, block}
+use Rattle.gw_object.specs.BlockGrammar.{entity_number, block_number, parameter_number, IsOfVersion, BlockFits, block}
 
 -- ---- what stands for each block
 

@@ -1,21 +1,32 @@
-//! The object: its parts, and the grammar of their one spelling in bytes (docs/object-format.md). It is made of parts, read
-//! and written by `gw_object_bytes`.
+//! The object: its blocks with their operands, PLUS code, and its other parts, and the grammar of their one spelling in bytes
+//! (docs/object-format.md). Blocks are put and read by `gw_block_bytes`, code by `gw_code_bytes`, and the whole object is made
+//! of parts, read and written by `gw_object_bytes`. What code does is `gw_rules`' to say, and which is accepted
+//! `gw_code_flow`'s.
 #![tactic(auto)]
 
+mod blocks;
 mod chains;
+mod code;
 pub mod codes;
 mod fault;
 mod limits;
 mod object;
 mod parts;
 
+pub use blocks::{
+    Assign, Attribute, Block, Both, Call, Comparison, Condition, EntityAttribute, Fraction, Gate,
+    Generate, Link, LinkOrder, Logic, Loop, Mode, Numbered, Operand, Plus, Priority, Save, Split,
+    Spread, SwitchAction, Test, Units, Unlink, block_word,
+};
 pub use chains::chains_in;
+pub use code::{Back, Instruction, Procedure, Sna};
 pub use fault::{Fault, Place};
 pub use gw_fields::Items;
 pub use limits::{
     GREATEST_CAPACITY, GREATEST_COUNT, GREATEST_SEED, GREATEST_UNITS, GREATEST_WEIGHT,
-    GREATEST_WIDTH, LEAST_CLASSES, MOST_BLOCKS, MOST_BYTES, MOST_CLASSES, MOST_ENTITIES,
-    MOST_LETTERS, MOST_POINTS, MOST_PROCEDURES, MOST_RETURN_ROWS, MOST_SEEDS,
+    GREATEST_WIDTH, LEAST_CLASSES, MOST_BACKS, MOST_BLOCKS, MOST_BYTES, MOST_CLASSES,
+    MOST_ENTITIES, MOST_INSTRUCTIONS, MOST_LETTERS, MOST_LOCALS, MOST_PARAMETERS, MOST_POINTS,
+    MOST_PROCEDURES, MOST_RETURN_ROWS, MOST_SEEDS, MOST_STREAMS,
 };
 pub use object::Object;
 pub use parts::{

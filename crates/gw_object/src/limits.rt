@@ -1,6 +1,19 @@
-//! The limits of the object format, but for those of the operands of blocks, which `gw_blocks` has.
+//! The limits of the object format (docs/object-format.md).
 
-use gw_blocks::MOST_STREAMS;
+/// The most streams of random numbers.
+pub const MOST_STREAMS: usize = 16;
+
+/// The most parameters of a transaction.
+pub const MOST_PARAMETERS: usize = 64;
+
+/// The most instructions of a procedure.
+pub const MOST_INSTRUCTIONS: usize = 4_096;
+
+/// The most BACKs among them.
+pub const MOST_BACKS: usize = 32;
+
+/// The most locals of a procedure, its arguments included.
+pub const MOST_LOCALS: u8 = 32;
 
 /// The most bytes that spell an object: 1 MiB.
 pub const MOST_BYTES: usize = 1_048_576;

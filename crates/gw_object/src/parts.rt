@@ -1,8 +1,8 @@
 //! The parts of an object, as a plain record. Their limits are the object format's (docs/object-format.md);
 //! what the blocks mean is in the GPSS World Reference Manual, chapter 7.
 
-use gw_blocks::{Block, Operand, Units};
-use gw_code::Procedure;
+use crate::blocks::{Block, Operand, Units};
+use crate::code::Procedure;
 use gw_fields::{Items, Keyed};
 
 /// The slope of a block's weight: the number of a parameter, from 1 to 64, and what each 1 of its value above 0 adds, from 1 to

@@ -9,8 +9,7 @@ use Rattle.std.proofs.lemmas.List.Elements.{All-map}
 use Rattle.std.proofs.lemmas.Slice.Zip.{length-zip, firsts-zip, seconds-zip, get_or-zip}
 use Rattle.gw_object.specs.Limits.{greatest_weight}
 use Rattle.gw_fields.specs.Fields.{Field, number, as_type, field_that_fits, nothing, plain, elements}
-use Rattle.gw_object.specs.Grammar.{weight, parameter_slope, no_slope, has_slopes, slope_where, slope, IsSlopeOfVersion, SlopeFits, sloped_weight}
-use Rattle.gw_object.specs.Grammar.{CertificateFits, certificate}
+use Rattle.gw_object.specs.Grammar.{weight, parameter_slope, no_slope, has_slopes, slope_where, slope, IsSlopeOfVersion, SlopeFits, sloped_weight, CertificateFits, certificate}
 use Rattle.gw_block_bytes.proofs.BlockLaws.{parameter_number_exact}
 use Rattle.gw_field_bytes.specs.Receivers.{Content, with_bytes}
 use Rattle.gw_field_bytes.proofs.Receiving.{one_more_put}

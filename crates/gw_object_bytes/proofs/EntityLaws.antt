@@ -16,10 +16,8 @@ use Rattle.gw_object.specs.declared.parts.Kind.{Kind}
 use Rattle.gw_object.specs.declared.parts.Kind.TheVariants.{Facility, Storage, Queue, Switch, Savevalue, Table, Chain, Variable, BooleanVariable, Function}
 use Rattle.gw_object.specs.declared.parts.Entity.{Entity}
 use Rattle.gw_fields.specs.Fields.{Field, byte, flag, field_with_test, both, nothing, form_read, by_tag, plain, ElementsFit}
-use Rattle.gw_blocks.specs.Grammar.{procedure_number}
-use Rattle.gw_object.specs.Entities.{is_letter, letter, name, kind_tag, capacity, initial_value, table, function, kind_fields, KindFits, KindAscends}
-use Rattle.gw_object.specs.Entities.{IsLettered, EntityFits, EntityAscends, IsNamed, AreNamesakes, is_named, new_name, kind_form, kind_forms}
-use Rattle.gw_object.specs.Entities.{entity_spelling, entity_read, FitsBehind, entity}
+use Rattle.gw_object.specs.BlockGrammar.{procedure_number}
+use Rattle.gw_object.specs.Entities.{is_letter, letter, name, kind_tag, capacity, initial_value, table, function, kind_fields, KindFits, KindAscends, IsLettered, EntityFits, EntityAscends, IsNamed, AreNamesakes, is_named, new_name, kind_form, kind_forms, entity_spelling, entity_read, FitsBehind, entity}
 use Rattle.gw_object_bytes.proofs.KindLaws.{capacity_exact, initial_value_exact, table_exact, function_exact}
 use Rattle.gw_block_bytes.proofs.BlockLaws.{procedure_number_exact}
 use Rattle.gw_field_bytes.proofs.OneOf.{flag_exact}

@@ -6,7 +6,7 @@ use Rattle.gw_object.specs.Limits.{greatest_capacity, greatest_width, least_clas
 use Rattle.gw_object.specs.declared.parts.Point.{Point}
 use Rattle.gw_object.specs.declared.parts.Function.{Function}
 use Rattle.gw_fields.specs.Fields.{number, signed_number, ElementsFit}
-use Rattle.gw_blocks.specs.Grammar.{OperandFits}
+use Rattle.gw_object.specs.BlockGrammar.{OperandFits}
 use Rattle.gw_object.specs.Entities.{capacity, initial_value, TableFits, table, PointFits, point, FunctionFits, PointsAscend, function}
 use Rattle.gw_block_bytes.proofs.BlockLaws.{operand_exact}
 use Rattle.gw_field_bytes.proofs.Ascending.{int_order, ascending_exact, ascends, ascending_fit}

@@ -13,12 +13,11 @@ use Rattle.gw_object.specs.Limits.{most_bytes, most_seeds, greatest_seed, greate
 use Rattle.gw_object.specs.declared.parts.Parts.{Parts}
 use Rattle.gw_fields.specs.declared.error.Bad.{Bad}
 use Rattle.gw_fields.specs.Fields.{IsProperFront, bad, number, field_with_test, count, plain, ElementsFit}
-use Rattle.gw_object.specs.Grammar.{weight, rows, IsSlopeOfVersion, CertificateFits, chain_certificate, tables, is_version, version_number, head}
-use Rattle.gw_object.specs.Grammar.{seed, start_count, object, spelling, IsWithinLimits, HasSpelling, Spells}
-use Rattle.gw_blocks.specs.declared.parts.Block.{Block}
-use Rattle.gw_blocks.specs.Grammar.{IsOfVersion, BlockFits, block}
-use Rattle.gw_code.specs.declared.parts.Procedure.{Procedure}
-use Rattle.gw_code.specs.Grammar.{ProcedureFits, NeedsAscend, procedure}
+use Rattle.gw_object.specs.Grammar.{weight, rows, IsSlopeOfVersion, CertificateFits, chain_certificate, tables, is_version, version_number, head, seed, start_count, object, spelling, IsWithinLimits, HasSpelling, Spells}
+use Rattle.gw_object.specs.declared.blocks.Block.{Block}
+use Rattle.gw_object.specs.BlockGrammar.{IsOfVersion, BlockFits, block}
+use Rattle.gw_object.specs.declared.code.Procedure.{Procedure}
+use Rattle.gw_object.specs.CodeGrammar.{ProcedureFits, NeedsAscend, procedure}
 use Rattle.gw_code_bytes.proofs.CodeLaws.{procedure_exact}
 use Rattle.gw_object.specs.Entities.{entity, chains_in}
 use Rattle.gw_object.specs.Reading.{whole_read, with_place, first_fault, out_of_memory, fault_at, IsRefused}

@@ -3,19 +3,16 @@ use Rattle.std.proofs.Common.{ℕ, ◌≤◌, List, [], length, get_or, Option, 
 use Rattle.std.specs.Prelude.{IfSome, nat_lt}
 use Rattle.std.specs.List.{All}
 use Rattle.std.specs.Int.{w16, w32}
-use Rattle.gw_object.specs.Limits.{most_entities, most_blocks, most_return_rows, greatest_units}
-use Rattle.gw_blocks.specs.Limits.{most_parameters}
-use Rattle.gw_blocks.specs.declared.parts.Units.{Units}
+use Rattle.gw_object.specs.Limits.{most_entities, most_blocks, most_return_rows, greatest_units, most_parameters}
+use Rattle.gw_object.specs.declared.blocks.Units.{Units}
 use Rattle.gw_object.specs.declared.parts.TableKind.{TableKind}
 use Rattle.gw_object.specs.declared.parts.TableKind.TheVariants.{Num, Ret}
 use Rattle.gw_object.specs.declared.parts.TableParameter.{TableParameter}
 use Rattle.gw_object.specs.declared.parts.TableState.{TableState}
 use Rattle.gw_object.specs.declared.parts.ReturnRow.{ReturnRow}
 use Rattle.gw_fields.specs.Fields.{Field, number, number_between, nothing, optional, plain, list_of, ElementsFit}
-use Rattle.gw_object.specs.Grammar.{row_number, return_block, ReturnRowFits, AreAscending, return_row, TableKindFits, table_kind_spelling}
-use Rattle.gw_object.specs.Grammar.{table_kind_forms, table_kind_read, table_kind, ParameterFits, parameter, owned_facility, held_units, HeldFits}
-use Rattle.gw_object.specs.Grammar.{StateFits, IsAscending, state}
-use Rattle.gw_blocks.specs.Grammar.{entity_number, block_number, parameter_number}
+use Rattle.gw_object.specs.Grammar.{row_number, return_block, ReturnRowFits, AreAscending, return_row, TableKindFits, table_kind_spelling, table_kind_forms, table_kind_read, table_kind, ParameterFits, parameter, owned_facility, held_units, HeldFits, StateFits, IsAscending, state}
+use Rattle.gw_object.specs.BlockGrammar.{entity_number, block_number, parameter_number}
 use Rattle.gw_block_bytes.proofs.BlockLaws.{entity_number_exact, block_number_exact, parameter_number_exact}
 use Rattle.gw_field_bytes.proofs.AboveLast.{above_last_exact, above_last_fit, above_last_ascends}
 use Rattle.gw_field_bytes.proofs.Ascending.{ascending_exact, nat_order, ascends, ascending_fit}

@@ -2,7 +2,7 @@
 use Rattle.std.specs.Prelude.{ℕ, ℤ, Option, nat_lt, int_lt}
 use Rattle.std.specs.Int.{w64}
 use Rattle.gw_fields.specs.Fields.{Field, key_above, signed_number}
-use Rattle.gw_blocks.specs.Grammar.{entity_number}
+use Rattle.gw_object.specs.BlockGrammar.{entity_number}
 
 -- an entity's number that is above the one before it, if there is one
 abbrev pub entity_above : Option ℕ → Field ℕ

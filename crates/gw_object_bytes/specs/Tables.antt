@@ -2,8 +2,8 @@
 use Rattle.std.specs.Prelude.{ℕ, List, ◌++◌, length, Option}
 use Rattle.std.specs.List.{flat_map, zip}
 use Rattle.gw_fields.specs.Fields.{Field, plain, elements, list_spelling}
-use Rattle.gw_blocks.specs.Grammar.{block}
-use Rattle.gw_code.specs.Grammar.{procedure}
+use Rattle.gw_object.specs.BlockGrammar.{block}
+use Rattle.gw_object.specs.CodeGrammar.{procedure}
 use Rattle.gw_object.specs.declared.parts.Parts.{Parts}
 use Rattle.gw_object.specs.Entities.{chains_in, entity}
 use Rattle.gw_object.specs.Grammar.{sloped_weight, tables}

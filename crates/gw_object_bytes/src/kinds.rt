@@ -3,14 +3,12 @@
 ghost use Rattle.std.specs.Prelude.{◌≡◌, ◌↔◌, IsTrue, int_lt};
 ghost use Rattle.std.specs.List.{All};
 ghost use Rattle.gw_field_bytes.specs.Receivers.{Puts};
-ghost use Rattle.gw_object.specs.Entities.{table, TableFits, point, PointFits, function, FunctionFits, PointsAscend};
-ghost use Rattle.gw_object.specs.Entities.{kind_tag, kind_fields, KindFits, KindAscends};
+ghost use Rattle.gw_object.specs.Entities.{FunctionFits, KindAscends, KindFits, PointFits, PointsAscend, TableFits, function, kind_fields, kind_tag, point, table};
 ghost use Rattle.gw_fields.specs.Answers.{Gives};
 ghost use Rattle.gw_object_bytes.specs.Keys.{argument_above};
 
 use crate::ObjectFormat;
 use gw_block_bytes::operand_fits;
-use gw_blocks::Operand;
 use gw_field_bytes::{
     Elements, Front, Put, Reading, Receiver, Spelled, put_listed, read_listed, read_ranged_u16,
     read_ranged_u32,
@@ -19,7 +17,7 @@ use gw_fields::{Items, ReadError, fault};
 use gw_object::codes::NOT_CANONICAL;
 use gw_object::{
     Function, GREATEST_CAPACITY, GREATEST_WIDTH, Kind, LEAST_CLASSES, MOST_CLASSES, MOST_POINTS,
-    Point, Table,
+    Operand, Point, Table,
 };
 use std::alloc::Global;
 

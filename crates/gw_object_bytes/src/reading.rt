@@ -14,14 +14,14 @@ use crate::entities::Entities;
 use crate::lists::{Seeds, Weights};
 use crate::rules::is_version;
 use gw_block_bytes::read_blocks;
-use gw_code::Procedure;
 use gw_code_bytes::CodeFormat;
 use gw_field_bytes::{IfAny, Plain, Spelled, read_elements, read_listed, read_ranged_u64};
 use gw_fields::{Bad, Items, ReadError, fault};
 use gw_object::codes::{LIMIT, MAGIC, MEMORY, TRAILING, VERSION};
 use gw_object::{
     Fault, GREATEST_COUNT, MOST_BLOCKS, MOST_BYTES, MOST_ENTITIES, MOST_PROCEDURES,
-    MOST_RETURN_ROWS, MOST_SEEDS, Object, Parts, Place, ReturnRow, Slope, TableState, chains_in,
+    MOST_RETURN_ROWS, MOST_SEEDS, Object, Parts, Place, Procedure, ReturnRow, Slope, TableState,
+    chains_in,
 };
 use std::alloc::Global;
 

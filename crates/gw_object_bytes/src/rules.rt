@@ -3,8 +3,7 @@
 ghost use Rattle.std.specs.Prelude.{◌≡◌, ◌↔◌, ◌≤◌, length, IsTrue, MatchOption};
 ghost use Rattle.std.specs.List.{All};
 ghost use Rattle.gw_object.specs.Limits.{most_bytes, greatest_seed};
-ghost use Rattle.gw_object.specs.Grammar.{HasLetters, IsWithinLimits, IsCanonical, HasSpelling};
-ghost use Rattle.gw_object.specs.Grammar.{Refuses, spelling, weight};
+ghost use Rattle.gw_object.specs.Grammar.{HasLetters, HasSpelling, IsCanonical, IsWithinLimits, Refuses, spelling, weight};
 ghost use Rattle.gw_object.specs.Grammar as model;
 
 use crate::certificate::{are_slopes_of_version, slopes_fit};

@@ -2,23 +2,23 @@
 
 ghost use Rattle.std.specs.Prelude.{◌≡◌, ◌↔◌, ◌<◌, IsTrue, IfSome};
 ghost use Rattle.std.specs.List.{All, AllPairs};
-ghost use Rattle.gw_object.specs.Grammar.{table_kind, TableKindFits, ParameterFits, parameter};
-ghost use Rattle.gw_object.specs.Grammar.{owned_facility, held_units, HeldFits, StateFits, IsAscending, state};
+ghost use Rattle.gw_object.specs.Grammar.{HeldFits, IsAscending, ParameterFits, StateFits, TableKindFits, held_units, owned_facility, parameter, state, table_kind};
 ghost use Rattle.gw_fields.specs.Answers.{Gives};
 ghost use Rattle.gw_object_bytes.specs.Keys.{entity_above};
-ghost use Rattle.gw_blocks.specs.declared.parts.Units.{Units};
+ghost use Rattle.gw_object.specs.declared.blocks.Units.{Units};
 ghost use Rattle.gw_object.specs.declared.parts.TableParameter.{TableParameter};
 
 use crate::ObjectFormat;
 use gw_block_bytes::{is_parameter, read_parameter_above};
-use gw_blocks::{MOST_PARAMETERS, Units};
 use gw_field_bytes::{
     Elements, Front, Put, Reading, Receiver, Spelled, keys_ascend, put_behind, put_listed,
     read_listed, read_ranged_u32,
 };
 use gw_fields::{Items, ReadError, fault};
 use gw_object::codes::{NOT_CANONICAL, TAG};
-use gw_object::{GREATEST_UNITS, MOST_ENTITIES, TableKind, TableParameter, TableState};
+use gw_object::{
+    GREATEST_UNITS, MOST_ENTITIES, MOST_PARAMETERS, TableKind, TableParameter, TableState, Units,
+};
 use std::alloc::Global;
 
 /// An entity's number that is above the one before it, if there is one.

@@ -1,6 +1,6 @@
 -- What each declaration makes of an entity.
 use Rattle.std.specs.Prelude.{◌≡◌, ℕ, List, [], ◌∷◌, Option, Some, None, pos, map, option_map, option_and_then}
-use Rattle.gw_blocks.specs.declared.parts.Operand.{Operand}
+use Rattle.gw_object.specs.declared.blocks.Operand.{Operand}
 use Rattle.gw_object.specs.declared.parts.Kind.{Kind}
 use Rattle.gw_object.specs.declared.parts.Kind.TheVariants as kinds
 use Rattle.gw_object.specs.declared.parts.Point.{Point}

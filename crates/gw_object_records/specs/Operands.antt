@@ -3,14 +3,14 @@ use Rattle.std.specs.Prelude.{ℕ, List, Option, Some, None, Bool, true, false, 
 use Rattle.std.specs.Prelude.{option_map, option_and_then, string_bytes, codes}
 use Rattle.std.specs.Option.{option_flatten}
 use Rattle.std.specs.Str.{bytes_eq}
-use Rattle.gw_blocks.specs.declared.parts.Operand.{Operand}
-use Rattle.gw_blocks.specs.declared.parts.Operand.TheVariants as operands
-use Rattle.gw_blocks.specs.declared.parts.Mode.{Mode}
-use Rattle.gw_blocks.specs.declared.parts.Mode.TheVariants as modes
-use Rattle.gw_blocks.specs.declared.parts.LinkOrder.{LinkOrder}
-use Rattle.gw_blocks.specs.declared.parts.LinkOrder.TheVariants as orders
+use Rattle.gw_object.specs.declared.blocks.Operand.{Operand}
+use Rattle.gw_object.specs.declared.blocks.Operand.TheVariants as operands
+use Rattle.gw_object.specs.declared.blocks.Mode.{Mode}
+use Rattle.gw_object.specs.declared.blocks.Mode.TheVariants as modes
+use Rattle.gw_object.specs.declared.blocks.LinkOrder.{LinkOrder}
+use Rattle.gw_object.specs.declared.blocks.LinkOrder.TheVariants as orders
 use Rattle.gw_rules.specs.declared.entities.EntityKind.{EntityKind}
-use Rattle.gw_operands.specs.Sources.{as_operand}
+use Rattle.gw_rules.specs.Sources.{as_operand}
 use Rattle.gw_text_expressions.specs.declared.model.Sna.{Sna}
 use Rattle.gw_text_expressions.specs.declared.model.Sna.TheVariants.{Random}
 use Rattle.gw_text_statements.specs.declared.model.Operand.{Operand as Text}

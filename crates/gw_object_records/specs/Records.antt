@@ -1,16 +1,16 @@
 -- The record of each block statement: what the object has for it.
 use Rattle.std.specs.Prelude.{ℕ, List, [], ◌∷◌, Option, Some, None, option_map, option_and_then}
-use Rattle.gw_blocks.specs.declared.parts.Block.{Block}
-use Rattle.gw_blocks.specs.declared.parts.Block.TheVariants as blocks
-use Rattle.gw_blocks.specs.declared.parts.Operand.{Operand}
-use Rattle.gw_blocks.specs.declared.parts.Spread.{Spread}
-use Rattle.gw_blocks.specs.declared.parts.Units.{Units}
-use Rattle.gw_blocks.specs.declared.parts.Comparison.{Comparison}
-use Rattle.gw_blocks.specs.declared.parts.Comparison.TheVariants as comparisons
-use Rattle.gw_blocks.specs.declared.parts.Condition.{Condition}
-use Rattle.gw_blocks.specs.declared.parts.Condition.TheVariants as conditions
-use Rattle.gw_blocks.specs.declared.parts.SwitchAction.{SwitchAction}
-use Rattle.gw_blocks.specs.declared.parts.SwitchAction.TheVariants as actions
+use Rattle.gw_object.specs.declared.blocks.Block.{Block}
+use Rattle.gw_object.specs.declared.blocks.Block.TheVariants as blocks
+use Rattle.gw_object.specs.declared.blocks.Operand.{Operand}
+use Rattle.gw_object.specs.declared.blocks.Spread.{Spread}
+use Rattle.gw_object.specs.declared.blocks.Units.{Units}
+use Rattle.gw_object.specs.declared.blocks.Comparison.{Comparison}
+use Rattle.gw_object.specs.declared.blocks.Comparison.TheVariants as comparisons
+use Rattle.gw_object.specs.declared.blocks.Condition.{Condition}
+use Rattle.gw_object.specs.declared.blocks.Condition.TheVariants as conditions
+use Rattle.gw_object.specs.declared.blocks.SwitchAction.{SwitchAction}
+use Rattle.gw_object.specs.declared.blocks.SwitchAction.TheVariants as actions
 use Rattle.gw_rules.specs.declared.entities.EntityKind.{EntityKind}
 use Rattle.gw_rules.specs.declared.entities.EntityKind.TheVariants as kinds
 use Rattle.gw_rules.specs.Kinds.{needed_by}

@@ -8,11 +8,11 @@ ghost use Rattle.gw_object_records.specs.Records.{by_reading};
 
 use crate::operands::*;
 use crate::operators::{action_of, asked_of, comparison_of, condition_of, mode_of};
-use gw_blocks::{
+use gw_compile::Numbering;
+use gw_object::{
     Assign, Block, Both, Call, Fraction, Generate, Link, Logic, Loop, Operand, Plus, Priority,
     Save, Split, Spread, Units, Unlink,
 };
-use gw_compile::Numbering;
 use gw_rules::EntityKind;
 use gw_text::{Gate, Modifier, Operand as Text, Statement, Switching, Test, Word};
 
@@ -75,7 +75,7 @@ impl<N: Numbering> Reading<'_, N> {
     fn test_of(&self, test: Test, left: &Text, right: &Text, otherwise: &Text) -> Option<Block>
         ensures { result ≡ by_reading N.numbers self.now model.test_of test left.now right.now otherwise.now }
     {
-        Some(Block::Test(gw_blocks::Test {
+        Some(Block::Test(gw_object::Test {
             comparison: comparison_of(test),
             left: self.value_at(0, left)?,
             right: self.value_at(1, right)?,
@@ -88,7 +88,7 @@ impl<N: Numbering> Reading<'_, N> {
         ensures { result ≡ model.gate_of (N.numbers self.now.names.now)
             gate entity.now otherwise.now }
     {
-        Some(Block::Gate(gw_blocks::Gate {
+        Some(Block::Gate(gw_object::Gate {
             condition: condition_of(gate),
             entity: entity_of(self.names, asked_of(gate), entity)?,
             otherwise: optional_block_of(self.names, otherwise)?,

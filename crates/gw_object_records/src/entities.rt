@@ -5,9 +5,8 @@ ghost use Rattle.gw_text_tokens.specs.declared.words.Word.TheVariants as words;
 ghost use Rattle.gw_object_records.specs.Entities as model;
 
 use crate::operands::{limit_of, number_of, procedure_at, short_number_of, value_of};
-use gw_blocks::Operand;
 use gw_compile::Numbering;
-use gw_object::{Function, Items, Kind, Memory, Point, Table};
+use gw_object::{Function, Items, Kind, Memory, Operand, Point, Table};
 use gw_text::{Body, Operand as Text, Point as TextPoint, Statement, Word};
 use std::alloc::Global;
 

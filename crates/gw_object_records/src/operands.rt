@@ -3,10 +3,9 @@
 ghost use Rattle.std.specs.Prelude.{◌≡◌, pos};
 ghost use Rattle.gw_object_records.specs.Operands as model;
 
-use gw_blocks::{LinkOrder, Operand};
 use gw_compile::{Equ, Numbering, attribute_in};
-use gw_operands::as_operand;
-use gw_rules::EntityKind;
+use gw_object::{LinkOrder, Operand};
+use gw_rules::{EntityKind, as_operand};
 use gw_text::{Operand as Text, Sna};
 
 /// The value that an EQU is.

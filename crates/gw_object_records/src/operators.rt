@@ -4,7 +4,7 @@ ghost use Rattle.std.specs.Prelude.{◌≡◌};
 ghost use Rattle.gw_object_records.specs.Operands.{mode_in};
 ghost use Rattle.gw_object_records.specs.Records as model;
 
-use gw_blocks::{Comparison, Condition, Mode, SwitchAction};
+use gw_object::{Comparison, Condition, Mode, SwitchAction};
 use gw_rules::EntityKind;
 use gw_text::{Gate, Modifier, Switching, Test};
 

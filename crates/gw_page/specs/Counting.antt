@@ -2,7 +2,7 @@
 use Rattle.std.specs.Prelude.{ℕ, ◌≤◌, ◌<◌, ℤ, pos, Bool, MatchBool, ◌^◌, ◌-◌}
 use Rattle.gw_step.specs.State.{State}
 use Rattle.gw_step.specs.Job.{Job, Alone, IsFinal}
-use Rattle.gw_model_jobs.specs.Running.{IsOver, IsStillAt}
+use Rattle.gw_answers.specs.Running.{IsOver, IsStillAt}
 
 -- no clock is past this
 abbrev pub end_of_time : ℤ

@@ -5,7 +5,7 @@ use Rattle.gw_step.specs.Job.{Job}
 use Rattle.gw_answers.specs.Status.{end_status}
 use Rattle.gw_answers.specs.Answer.{job_of}
 use Rattle.gw_answers.specs.Assembly.{IsAssembly}
-use Rattle.gw_model_jobs.specs.ModelJobs.{IsJobOf}
+use Rattle.gw_answers.specs.ModelJobs.{IsJobOf}
 use Rattle.gw_figures.specs.Labels.{labels_of}
 use Rattle.gw_study.specs.Runs.{run_job}
 use Rattle.gw_alternatives.specs.Alternatives.{ArePoints}

@@ -4,7 +4,7 @@ ghost use Rattle.std.specs.Prelude.{◌≡◌, ◌≤◌, ◌<◌, IfOk};
 ghost use Rattle.gw_step.specs.Job.{IsReached};
 ghost use Rattle.gw_page.specs.Counting.{EndsOrSteps, IsCounted};
 
-use gw_model_jobs::{Time, is_over};
+use gw_answers::{Time, is_over};
 use gw_object::Memory;
 use gw_scan::{Sim, Spec};
 use std::alloc::Global;

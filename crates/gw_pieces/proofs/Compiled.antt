@@ -1,11 +1,11 @@
 -- Procedures that are compiled one after the other.
 use Rattle.std.proofs.Common.{◌≡◌, ℕ, zero, suc, ◌+◌, List, [], ◌∷◌, ◌++◌, length, take, Some, slice_get, inl, inr, ◌⊎◌, refl, sym, ap, subst, ◌∙◌, arith}
 use Rattle.std.proofs.lemmas.List.{length-append}
-use Rattle.gw_code.specs.declared.parts.Procedure.{Procedure}
+use Rattle.gw_object.specs.declared.code.Procedure.{Procedure}
 use Rattle.gw_text.specs.declared.model.Statement.{Statement}
 use Rattle.gw_compile.specs.Numbers.{Numbers}
 use Rattle.gw_pieces.specs.declared.origins.Origin.{Origin}
-use Rattle.gw_code.specs.Grammar.{backs}
+use Rattle.gw_object.specs.CodeGrammar.{backs}
 use Rattle.gw_text_plus.specs.declared.model.Procedure.{Procedure as TextProcedure}
 use Rattle.gw_text.specs.declared.model.Body.{Body}
 use Rattle.gw_text.specs.declared.model.Body.TheVariants as bodies

@@ -10,9 +10,9 @@ use Rattle.gw_object.specs.declared.parts.Kind.{Kind}
 use Rattle.gw_object.specs.declared.parts.Kind.TheVariants as kinds
 use Rattle.gw_object.specs.declared.parts.Point.{Point}
 use Rattle.gw_object.specs.declared.parts.Table.{Table}
-use Rattle.gw_blocks.specs.declared.parts.Numbered.{Numbered}
-use Rattle.gw_blocks.specs.declared.parts.Operand.{Operand}
-use Rattle.gw_blocks.specs.declared.parts.Operand.TheVariants as parts
+use Rattle.gw_object.specs.declared.blocks.Numbered.{Numbered}
+use Rattle.gw_object.specs.declared.blocks.Operand.{Operand}
+use Rattle.gw_object.specs.declared.blocks.Operand.TheVariants as parts
 use Rattle.gw_text_statements.specs.declared.model.Operand.{Operand as Text}
 use Rattle.gw_text_statements.specs.declared.model.Operand.TheVariants as texts
 use Rattle.gw_text_tokens.specs.declared.words.Word.TheVariants as words
@@ -21,11 +21,11 @@ use Rattle.gw_object_records.specs.Operands.{whole_in, number_in as number_in_te
 use Rattle.gw_object_records.specs.Records.{of_two, of_three}
 use Rattle.gw_pieces.specs.Numbers.{with_source}
 use Rattle.gw_object.specs.Grammar.{HasSpelling}
-use Rattle.gw_code.specs.declared.parts.Procedure.{Procedure}
+use Rattle.gw_object.specs.declared.code.Procedure.{Procedure}
 use Rattle.gw_rules.specs.Pass.{KindsPass}
-use Rattle.gw_operands.specs.Code.{procedure_at, arguments_of}
-use Rattle.gw_operands.specs.Environment.{Environment}
-use Rattle.gw_operands.specs.Outcome.{outcome_of}
+use Rattle.gw_rules.specs.Code.{procedure_at, arguments_of}
+use Rattle.gw_rules.specs.Environment.{Environment}
+use Rattle.gw_rules.specs.Outcome.{outcome_of}
 use Rattle.gw_rules.specs.PlusChecks.{PlusPasses}
 use Rattle.gw_rules.proofs.PlusTheorems.{code_holds}
 use Rattle.gw_text_expressions.specs.declared.model.Expression.{Expression, Row_of-Expression, end_of-Expression, more_of-Expression}

@@ -15,8 +15,8 @@ use Rattle.gw_names.specs.Ledger.{noted_at}
 use Rattle.gw_names.specs.Places.{last_by, name_entry, places_from, declared_entity, declaration_of}
 use Rattle.gw_names.specs.Sights.{entities_of}
 use Rattle.gw_names.proofs.Declaring.{last_append}
-use Rattle.gw_blocks.specs.declared.parts.Numbered.{Numbered}
-use Rattle.gw_blocks.specs.declared.parts.Operand.{Operand}
+use Rattle.gw_object.specs.declared.blocks.Numbered.{Numbered}
+use Rattle.gw_object.specs.declared.blocks.Operand.{Operand}
 use Rattle.gw_pieces.specs.Numbers.{with_source}
 use Rattle.gw_pieces.specs.declared.origins.Origin.{Origin}
 use Rattle.gw_pieces.specs.Notes.{Never, IsFor, NotesMore, NotesMissing}

@@ -2,8 +2,8 @@
 use Rattle.std.specs.Prelude.{◌≡◌, Bool, ℕ, ℤ, pos, List, [], ◌∷◌, ◌++◌, Option, Some, None, not, slice_get, string_bytes, unwrap_or}
 use Rattle.std.specs.List.{flat_map}
 use Rattle.gw_num.specs.Arithmetic.{is_zero}
-use Rattle.gw_blocks.specs.declared.parts.Numbered.{Numbered}
-use Rattle.gw_blocks.specs.declared.parts.Operand.{Operand}
+use Rattle.gw_object.specs.declared.blocks.Numbered.{Numbered}
+use Rattle.gw_object.specs.declared.blocks.Operand.{Operand}
 use Rattle.gw_rules.specs.declared.entities.EntityKind.{EntityKind}
 use Rattle.gw_rules.specs.declared.entities.EntityKind.TheVariants as needed
 use Rattle.gw_object.specs.declared.parts.Entity.{Entity}

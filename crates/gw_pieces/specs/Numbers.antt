@@ -1,9 +1,9 @@
 -- The numbers of names, where what is evaluated for attributes is left open.
-use Rattle.gw_blocks.specs.declared.parts.Numbered.{Numbered}
-use Rattle.gw_blocks.specs.declared.parts.Operand.{Operand}
-use Rattle.gw_blocks.specs.declared.parts.Operand.TheVariants as operands
+use Rattle.gw_object.specs.declared.blocks.Numbered.{Numbered}
+use Rattle.gw_object.specs.declared.blocks.Operand.{Operand}
+use Rattle.gw_object.specs.declared.blocks.Operand.TheVariants as operands
 use Rattle.gw_object.specs.declared.parts.Entity.{Entity}
-use Rattle.gw_operands.specs.Sources.{source_of}
+use Rattle.gw_rules.specs.Sources.{source_of}
 use Rattle.gw_compile.specs.Numbers.{Numbers}
 use Rattle.std.specs.Prelude.{List}
 

@@ -1,8 +1,8 @@
 -- What the pieces of a model text are made by, and what the passes over it make and note.
 use Rattle.std.specs.Prelude.{◌≡◌, ◌≤◌, ℕ, List, ◌++◌, length, Vec, Option, Some}
 use Rattle.std.specs.Global.{Global}
-use Rattle.gw_blocks.specs.declared.parts.Block.{Block}
-use Rattle.gw_code.specs.declared.parts.Procedure.{Procedure}
+use Rattle.gw_object.specs.declared.blocks.Block.{Block}
+use Rattle.gw_object.specs.declared.code.Procedure.{Procedure}
 use Rattle.gw_object.specs.declared.limits.TheConstants.{MOST_PROCEDURES}
 use Rattle.gw_object.specs.declared.parts.Entity.{Entity}
 use Rattle.gw_object.specs.declared.parts.Kind.{Kind}

@@ -1,9 +1,9 @@
 -- Why a text is refused at a line, beside the refusals of its names.
 use Rattle.std.specs.Prelude.{◌≡◌, ◌⊎◌, ◌<◌, ℕ, List, [], ◌∷◌, length, Option, Some, None, true, slice_get, if◌then◌else◌}
 use Rattle.std.specs.List.{All}
-use Rattle.gw_blocks.specs.declared.parts.Numbered.{Numbered}
-use Rattle.gw_blocks.specs.declared.parts.Operand.{Operand}
-use Rattle.gw_code.specs.Limits.{most_instructions}
+use Rattle.gw_object.specs.declared.blocks.Numbered.{Numbered}
+use Rattle.gw_object.specs.declared.blocks.Operand.{Operand}
+use Rattle.gw_object.specs.Limits.{most_instructions}
 use Rattle.gw_object.specs.declared.limits.TheConstants.{MOST_PROCEDURES}
 use Rattle.gw_text_expressions.specs.declared.model.Expression.{Expression}
 use Rattle.gw_text_plus.specs.declared.model.Procedure.{Procedure as TextProcedure}

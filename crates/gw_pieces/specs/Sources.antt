@@ -1,6 +1,6 @@
 -- What the procedures of a model text are compiled from.
 use Rattle.std.specs.Prelude.{◌≡◌, ℕ, List, length, take, Some, Result, IfOk, slice_get, [], ◌∷◌, ◌++◌}
-use Rattle.gw_code.specs.declared.parts.Procedure.{Procedure}
+use Rattle.gw_object.specs.declared.code.Procedure.{Procedure}
 use Rattle.gw_text_expressions.specs.declared.model.Expression.{Expression}
 use Rattle.gw_text_plus.specs.declared.model.Procedure.{Procedure as TextProcedure}
 use Rattle.gw_text.specs.declared.model.Body.{Body}

@@ -1,8 +1,8 @@
 -- Which version of the object format blocks ask for.
 use Rattle.std.specs.Prelude.{ℕ, List, Bool, true, false, if◌then◌else◌}
 use Rattle.std.specs.List.{list_any}
-use Rattle.gw_blocks.specs.declared.parts.Block.{Block}
-use Rattle.gw_blocks.specs.declared.parts.Block.TheVariants.{TransferBoth}
+use Rattle.gw_object.specs.declared.blocks.Block.{Block}
+use Rattle.gw_object.specs.declared.blocks.Block.TheVariants.{TransferBoth}
 
 -- whether the first version doesn't have a block
 abbrev pub is_choice : Block → Bool

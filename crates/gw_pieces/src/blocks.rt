@@ -10,9 +10,9 @@ ghost use Rattle.gw_pieces.specs.Plans as plans;
 
 use crate::origins::{Origin, expression_at, is_variable, place_of, whole_call};
 use crate::plan::Plan;
-use gw_blocks::Block;
 use gw_compile::{Callee, Numbering};
 use gw_names::{Ledger, Names, codes};
+use gw_object::Block;
 use gw_object_records::record_of;
 use gw_text::{Body, Expression, Statement};
 use std::alloc::{AllocError, Global};

@@ -10,10 +10,9 @@ ghost use Rattle.gw_pieces.specs.Sources.{CompilesBody, CompilesOperand, Compile
 
 use crate::origins::{Origin, expression_at};
 use crate::plan::Plan;
-use gw_code::Procedure;
 use gw_compile::{CompileFault, compile, compile_procedure};
 use gw_names::{Ledger, Names, codes};
-use gw_object::MOST_PROCEDURES;
+use gw_object::{MOST_PROCEDURES, Procedure};
 use gw_text::{Body, Procedure as TextProcedure, Statement};
 use std::alloc::{AllocError, Global};
 

@@ -3,7 +3,7 @@
 ghost use Rattle.std.specs.Prelude.{◌≡◌};
 ghost use Rattle.gw_pieces.specs.Versions as model;
 
-use gw_blocks::Block;
+use gw_object::Block;
 
 /// Whether the first version doesn't have this block: a TRANSFER in both mode.
 fn is_choice(block: &Block) -> bool

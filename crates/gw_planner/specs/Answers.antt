@@ -9,7 +9,7 @@ use Rattle.gw_answers.specs.Assembly.{IsAssembly}
 use Rattle.gw_answers.specs.Requests.{Answering}
 use Rattle.gw_explain.specs.Explanation.{IsExplained}
 use Rattle.gw_listing.specs.Listing.{IsListed}
-use Rattle.gw_model_jobs.specs.ModelJobs.{AnswersModel}
+use Rattle.gw_answers.specs.ModelJobs.{AnswersModel}
 use Rattle.gw_trace.specs.Trace.{IsTrace}
 use Rattle.gw_chart.specs.Charts.{IsChart, IsSheet}
 use Rattle.gw_chart.specs.declared.window.Window.{Window}

@@ -7,12 +7,12 @@ use Rattle.std.proofs.lemmas.Bool.Decides.{nat_tests}
 use Rattle.std.proofs.lemmas.Option.{slice_get_within, slice_get_read}
 use Rattle.arrayvec.specs.ArrayVec.{ArrayVec}
 use Rattle.gw_num.proofs.Tables.{at-get_or, at-replicate}
-use Rattle.gw_code.specs.declared.parts.Instruction.{Instruction}
-use Rattle.gw_code.specs.declared.parts.Instruction.TheVariants.{Call}
-use Rattle.gw_code.specs.declared.parts.Procedure.{Procedure}
+use Rattle.gw_object.specs.declared.code.Instruction.{Instruction}
+use Rattle.gw_object.specs.declared.code.Instruction.TheVariants.{Call}
+use Rattle.gw_object.specs.declared.code.Procedure.{Procedure}
 use Rattle.gw_object.specs.declared.parts.Parts.{Parts}
-use Rattle.gw_operands.specs.Code.{procedure_at}
-use Rattle.gw_operands.specs.Meaning.{Frame, Calls, Stuck, calls, calls_with, or_stuck, on, frame_of_locals}
+use Rattle.gw_rules.specs.Code.{procedure_at}
+use Rattle.gw_rules.specs.Meaning.{Frame, Calls, Stuck, calls, calls_with, or_stuck, on, frame_of_locals}
 use Rattle.gw_plus.specs.declared.activation.Step.TheVariants.{Called}
 use Rattle.gw_plus.specs.Activation.{finish_of, Did}
 

@@ -9,7 +9,7 @@ use Rattle.std.proofs.lemmas.Bool.{eqb-true}
 use Rattle.std.proofs.lemmas.Grind.{common_steps}
 use Rattle.std.proofs.lemmas.List.Quantifiers.{position-Some}
 use Rattle.std.proofs.lemmas.List.Sums.{fails_before_first}
-use Rattle.gw_operands.specs.Meaning.{taken_at, take_once}
+use Rattle.gw_rules.specs.Meaning.{taken_at, take_once}
 use Rattle.gw_plus.specs.declared.activation.Turns.{Turns}
 use Rattle.gw_plus.specs.Activation.{taken_of, is_taken}
 

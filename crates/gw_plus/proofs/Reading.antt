@@ -4,20 +4,18 @@ use Rattle.std.specs.Prelude.{IfSome}
 use Rattle.std.specs.Option.{IsSome, IsSomeAnd}
 use Rattle.gw_num.specs.Table.{at}
 use Rattle.gw_num.proofs.Tables.{at_some}
-use Rattle.gw_blocks.specs.declared.parts.EntityAttribute.{EntityAttribute}
-use Rattle.gw_blocks.specs.declared.parts.EntityAttribute.TheVariants.{FacilityOwned, StorageContent, StorageRemaining, QueueContent, SavevalueValue}
-use Rattle.gw_blocks.specs.declared.parts.EntityAttribute.TheVariants.{SwitchSetting, ChainMembers, VariableValue, BooleanValue, FunctionValue}
-use Rattle.gw_blocks.specs.declared.parts.EntityAttribute.TheVariants.{BlockEntries, BlockCount}
-use Rattle.gw_blocks.specs.declared.parts.Operand.{Operand}
-use Rattle.gw_blocks.specs.declared.parts.Operand.TheVariants.{Constant, Parameter, Attribute, OfEntity, Random, Procedure}
+use Rattle.gw_object.specs.declared.blocks.EntityAttribute.{EntityAttribute}
+use Rattle.gw_object.specs.declared.blocks.EntityAttribute.TheVariants.{FacilityOwned, StorageContent, StorageRemaining, QueueContent, SavevalueValue, SwitchSetting, ChainMembers, VariableValue, BooleanValue, FunctionValue, BlockEntries, BlockCount}
+use Rattle.gw_object.specs.declared.blocks.Operand.{Operand}
+use Rattle.gw_object.specs.declared.blocks.Operand.TheVariants.{Constant, Parameter, Attribute, OfEntity, Random, Procedure}
 use Rattle.gw_object.specs.declared.parts.Entity.{Entity}
 use Rattle.gw_object.specs.declared.parts.Kind.{Kind}
 use Rattle.gw_object.specs.declared.parts.Parts.{Parts}
-use Rattle.gw_operands.specs.Sources.{kind_at}
+use Rattle.gw_rules.specs.Sources.{kind_at}
 use Rattle.gw_rules.specs.Kinds.{entity_named}
 use Rattle.gw_rules.specs.KindsLaws.{IsEntity}
-use Rattle.gw_operands.specs.Environment.{Environment, kept_value}
-use Rattle.gw_operands.specs.Meaning.{Frame, Next, Stuck, or_stuck, push_value, reads_source}
+use Rattle.gw_rules.specs.Environment.{Environment, kept_value}
+use Rattle.gw_rules.specs.Meaning.{Frame, Next, Stuck, or_stuck, push_value, reads_source}
 use Rattle.gw_rules.proofs.PlusReading.{IsGood}
 use Rattle.gw_plus.specs.declared.env.Env.{Env}
 use Rattle.gw_plus.specs.Reading.{environment_of, IsOf, MayRead, MayReadKept}

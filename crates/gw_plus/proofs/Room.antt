@@ -7,21 +7,20 @@ use Rattle.gw_num.specs.Arithmetic.{is_zero}
 use Rattle.gw_num.specs.Table.{at}
 use Rattle.gw_num.specs.Operators.{binary_value, unary_value}
 use Rattle.gw_num.specs.declared.arithmetic.NumFault.{NumFault}
-use Rattle.gw_blocks.specs.declared.parts.Operand.{Operand}
-use Rattle.gw_blocks.specs.declared.parts.Operand.TheVariants as operands
-use Rattle.gw_code.specs.Limits.{most_backs}
-use Rattle.gw_code.specs.Grammar.{is_back, backs}
-use Rattle.gw_code.specs.declared.parts.Instruction.{Instruction}
-use Rattle.gw_code.specs.declared.parts.Instruction.TheVariants.{Push, Get, Set, Value, Binary, Unary, Pop, Jump, JumpIfZero, Back, Call, Return}
-use Rattle.gw_code.specs.declared.parts.Procedure.{Procedure}
+use Rattle.gw_object.specs.declared.blocks.Operand.{Operand}
+use Rattle.gw_object.specs.declared.blocks.Operand.TheVariants as operands
+use Rattle.gw_object.specs.Limits.{most_backs}
+use Rattle.gw_object.specs.CodeGrammar.{is_back, backs}
+use Rattle.gw_object.specs.declared.code.Instruction.{Instruction}
+use Rattle.gw_object.specs.declared.code.Instruction.TheVariants.{Push, Get, Set, Value, Binary, Unary, Pop, Jump, JumpIfZero, Back, Call, Return}
+use Rattle.gw_object.specs.declared.code.Procedure.{Procedure}
 use Rattle.gw_object.specs.declared.parts.Parts.{Parts}
-use Rattle.gw_operands.specs.Sources.{source_of, as_operand}
-use Rattle.gw_operands.specs.Environment.{Environment, attribute_value}
-use Rattle.gw_operands.specs.Results.{value_by_operand}
-use Rattle.gw_operands.specs.Code.{most_values, procedure_at}
-use Rattle.gw_operands.specs.declared.ends.PlusEnd.TheVariants.{LoopLimit}
-use Rattle.gw_operands.specs.Meaning.{Taken, taken_at, take_once, Frame, Next, Goes, Calls, Returns, Ends, Stuck, on, push_value, or_stuck, pop_value}
-use Rattle.gw_operands.specs.Meaning.{calculate, calls_with, reads_source, act}
+use Rattle.gw_rules.specs.Sources.{source_of, as_operand}
+use Rattle.gw_rules.specs.Environment.{Environment, attribute_value}
+use Rattle.gw_rules.specs.Results.{value_by_operand}
+use Rattle.gw_rules.specs.Code.{most_values, procedure_at}
+use Rattle.gw_rules.specs.declared.ends.PlusEnd.TheVariants.{LoopLimit}
+use Rattle.gw_rules.specs.Meaning.{Taken, taken_at, take_once, Frame, Next, Goes, Calls, Returns, Ends, Stuck, on, push_value, or_stuck, pop_value, calculate, calls_with, reads_source, act}
 use Rattle.gw_plus.specs.Activation.{is_taken, untaken_backs, CanCount, CanCountEach}
 
 -- AT FIRST

@@ -4,18 +4,18 @@ use Rattle.std.specs.Prelude.{slice_get, IsTrue}
 use Rattle.std.proofs.lemmas.List.Elements.{All-get_or}
 use Rattle.std.proofs.lemmas.Option.{slice_get-get_or, get_or_from_slice_get}
 use Rattle.arrayvec.specs.ArrayVec.{ArrayVec}
-use Rattle.gw_code.specs.Limits.{most_instructions}
-use Rattle.gw_code.specs.Grammar.{is_back}
-use Rattle.gw_code.specs.declared.parts.Instruction.{Instruction}
-use Rattle.gw_code.specs.declared.parts.Instruction.TheVariants.{Push}
-use Rattle.gw_code.specs.declared.parts.Procedure.{Procedure}
+use Rattle.gw_object.specs.Limits.{most_instructions}
+use Rattle.gw_object.specs.CodeGrammar.{is_back}
+use Rattle.gw_object.specs.declared.code.Instruction.{Instruction}
+use Rattle.gw_object.specs.declared.code.Instruction.TheVariants.{Push}
+use Rattle.gw_object.specs.declared.code.Procedure.{Procedure}
 use Rattle.gw_object.specs.declared.parts.Parts.{Parts}
 use Rattle.gw_rules.specs.KindsLaws.{InstructionHolds}
-use Rattle.gw_operands.specs.Code.{procedure_at, costs_of}
-use Rattle.gw_operands.specs.Environment.{Environment}
+use Rattle.gw_rules.specs.Code.{procedure_at, costs_of}
+use Rattle.gw_rules.specs.Environment.{Environment}
 use Rattle.gw_rules.specs.PlusLaws.{HasSet}
-use Rattle.gw_operands.specs.Meaning.{Frame, Next, Goes, Stuck, push_value, act, next, opening_frame, Derives, returns, ends, goes, call_ends, call_gives}
-use Rattle.gw_operands.specs.declared.ends.PlusEnd.{PlusEnd}
+use Rattle.gw_rules.specs.Meaning.{Frame, Next, Goes, Stuck, push_value, act, next, opening_frame, Derives, returns, ends, goes, call_ends, call_gives}
+use Rattle.gw_rules.specs.declared.ends.PlusEnd.{PlusEnd}
 use Rattle.gw_rules.proofs.Potential.{potential}
 use Rattle.gw_rules.proofs.PlusRules.{checked}
 use Rattle.gw_rules.proofs.PlusSteps.{Sound, Ready, Well, CallsWell, next_well, opened_ready}

@@ -3,8 +3,8 @@ use Rattle.std.proofs.Common.{◌≡◌, ◌≢◌, ℕ, ◌<◌, ℤ, pos, get_
 use Rattle.std.specs.Prelude.{slice_get}
 use Rattle.std.proofs.lemmas.Bool.Decides.{nat_tests}
 use Rattle.std.proofs.lemmas.Option.{get_or_from_slice_get}
-use Rattle.gw_code.specs.declared.parts.Back.{Back as JumpBack}
-use Rattle.gw_operands.specs.Meaning.{Taken, Frame, Goes, Stuck, on, or_stuck, push_value, gets, jumps_back, taken_at, take_once}
+use Rattle.gw_object.specs.declared.code.Back.{Back as JumpBack}
+use Rattle.gw_rules.specs.Meaning.{Taken, Frame, Goes, Stuck, on, or_stuck, push_value, gets, jumps_back, taken_at, take_once}
 
 -- GET reads the local
 pub gets_is : (local : ℕ) (f : Frame) (v : ℤ) → gets local f ≢ Stuck → v ≡ get_or f.locals local (pos 0) → gets local f ≡ push_value v (on f)

@@ -1,22 +1,22 @@
 -- What an activation of a procedure stands for, and what its steps tell.
 use Rattle.std.specs.Prelude.{◌≡◌, ℕ, ◌+◌, ◌-◌, ◌≤◌, ◌<◌, ℤ, List, [], ◌∷◌, length, map, take, slice_get, slice_set, Option, Some, Result, Bool}
 use Rattle.std.specs.Prelude.{false, if◌then◌else◌, not, ◌==◌, ◌&&◌, ◌||◌}
-use Rattle.gw_code.specs.Limits.{most_backs}
-use Rattle.gw_code.specs.Grammar.{is_back}
-use Rattle.gw_code.specs.declared.parts.Instruction.{Instruction}
-use Rattle.gw_code.specs.declared.parts.Instruction.TheVariants.{Value, Call}
-use Rattle.gw_code.specs.declared.parts.Procedure.{Procedure}
-use Rattle.gw_code.specs.declared.parts.Sna.{Sna}
+use Rattle.gw_object.specs.Limits.{most_backs}
+use Rattle.gw_object.specs.CodeGrammar.{is_back}
+use Rattle.gw_object.specs.declared.code.Instruction.{Instruction}
+use Rattle.gw_object.specs.declared.code.Instruction.TheVariants.{Value, Call}
+use Rattle.gw_object.specs.declared.code.Procedure.{Procedure}
+use Rattle.gw_object.specs.declared.code.Sna.{Sna}
 use Rattle.gw_object.specs.declared.parts.Parts.{Parts}
 use Rattle.gw_object.specs.Grammar.{HasSpelling}
-use Rattle.gw_operands.specs.Sources.{as_operand}
-use Rattle.gw_operands.specs.Code.{procedure_at}
-use Rattle.gw_operands.specs.Environment.{Environment}
+use Rattle.gw_rules.specs.Sources.{as_operand}
+use Rattle.gw_rules.specs.Code.{procedure_at}
+use Rattle.gw_rules.specs.Environment.{Environment}
 use Rattle.gw_rules.specs.PlusLaws.{MayBegin, CodeHolds}
-use Rattle.gw_operands.specs.Results.{value_by_operand}
+use Rattle.gw_rules.specs.Results.{value_by_operand}
 use Rattle.gw_rules.specs.PlusChecks.{PlusPasses}
-use Rattle.gw_operands.specs.declared.ends.PlusEnd.{PlusEnd}
-use Rattle.gw_operands.specs.Meaning.{Taken, Frame, Next, taken_at, take_once, Goes, Calls, Returns, Ends, Derives, opening_frame, on, reads, calls, act}
+use Rattle.gw_rules.specs.declared.ends.PlusEnd.{PlusEnd}
+use Rattle.gw_rules.specs.Meaning.{Taken, Frame, Next, taken_at, take_once, Goes, Calls, Returns, Ends, Derives, opening_frame, on, reads, calls, act}
 use Rattle.gw_plus.specs.Reading.{environment_of}
 use Rattle.gw_plus.specs.declared.env.Env.{Env}
 use Rattle.gw_plus.specs.declared.activation.Turns.{Turns}

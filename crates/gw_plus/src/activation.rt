@@ -2,22 +2,20 @@
 
 ghost use Rattle.std.specs.Prelude.{◌≡◌, ◌≢◌, ◌≤◌, ◌<◌, ℕ, length, Some, IsTrue, ◌==◌};
 ghost use Rattle.std.specs.List.{position};
-ghost use Rattle.gw_code.specs.Limits.{most_instructions, most_locals};
-ghost use Rattle.gw_code.specs.Grammar.{is_back};
+ghost use Rattle.gw_object.specs.Limits.{most_instructions, most_locals};
+ghost use Rattle.gw_object.specs.CodeGrammar.{is_back};
 ghost use Rattle.gw_rules.specs.KindsLaws.{InstructionHolds};
 ghost use Rattle.gw_rules.specs.PlusLaws.{CodeHolds};
-ghost use Rattle.gw_operands.specs.Meaning as model;
-ghost use Rattle.gw_operands.specs.Meaning.{Goes, Stuck, on, push_value, calculate, frame_of_locals};
+ghost use Rattle.gw_rules.specs.Meaning as model;
+ghost use Rattle.gw_rules.specs.Meaning.{Goes, Stuck, on, push_value, calculate, frame_of_locals};
 ghost use Rattle.gw_plus.specs.Reading.{IsOf};
 ghost use Rattle.gw_plus.specs.Activation.{taken_of, frame_of, first_frame, top_of, next_read, next_of, finish_of, CanCount, CanCountNext, Does, CallsAlone, DoesCall, HasEntry, CountsByEntry, without_top, DoesRead, DoesInstruction};
 
 use crate::env::Env;
 use arrayvec::ArrayVec;
-use gw_blocks::Operand;
-use gw_code::{Back, Instruction, Sna};
 use gw_num::{Binary, NumFault, Unary};
-use gw_object::Parts;
-use gw_operands::{PlusEnd, as_operand, operand_value, source_of};
+use gw_object::{Back, Instruction, Operand, Parts, Sna};
+use gw_rules::{PlusEnd, as_operand, operand_value, source_of};
 
 /// How often a BACK was taken.
 #[derive(Clone, Copy, Default, PartialEq, Eq)]
@@ -102,7 +100,7 @@ fn entry_for(turns: &mut ArrayVec<Turns, 32>, place: usize) -> usize
 }
 
 /// What an instruction makes of the value of the procedure that it called: VALUE what its attribute makes of it
-/// (`gw_operands::operand_value`), and CALL leaves it as it is.
+/// (`gw_rules::operand_value`), and CALL leaves it as it is.
 pub(crate) fn finished(parts: &Parts, instruction: Instruction, value: i64) -> i64
     ensures { result ≡ finish_of parts.now instruction value }
 {
@@ -210,7 +208,7 @@ impl Activation {
     }
 
     /// VALUE: by its source, a procedure is called, or what the attribute makes of a value that is kept comes onto the stack
-    /// (`gw_operands::source_of`, `gw_operands::operand_value`).
+    /// (`gw_rules::source_of`, `gw_rules::operand_value`).
     fn value(&mut self, parts: &Parts, env: &Env, sna: Sna) -> Step
         requires code { CodeHolds parts.now }
         requires environment { IsOf parts.now env.now }
@@ -326,7 +324,7 @@ impl Activation {
     }
 
     /// Executes this instruction, which is the one that comes next.
-    #[tactic(auto, unfolding(gw_operands::specs::Meaning::act))]
+    #[tactic(auto, unfolding(gw_rules::specs::Meaning::act))]
     pub fn step(&mut self, parts: &Parts, env: &Env, instruction: Instruction) -> Step
         requires code { CodeHolds parts.now }
         requires environment { IsOf parts.now env.now }

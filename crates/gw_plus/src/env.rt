@@ -5,12 +5,12 @@ ghost use Rattle.std.specs.Option.{IsSome};
 ghost use Rattle.gw_num.specs.Table.{at};
 ghost use Rattle.gw_entities.specs.Attributes as model;
 ghost use Rattle.gw_entities.specs.Facility.{is_idle};
-ghost use Rattle.gw_operands.specs.Environment.{attribute_value, kept_value};
+ghost use Rattle.gw_rules.specs.Environment.{attribute_value, kept_value};
 ghost use Rattle.gw_plus.specs.Reading.{readings_of, environment_of, AttributesFit, MayRead, MayReadKept};
 
-use gw_blocks::{Attribute, EntityAttribute, Operand};
 use gw_entities::{Facilities, Facility, Queues, Savevalues, Storage, Storages, Switches, Tables};
 use gw_num::truth_value;
+use gw_object::{Attribute, EntityAttribute, Operand};
 use gw_transactions::Parameters;
 use gw_user_chains::UserChains;
 

@@ -1,7 +1,7 @@
 //! Evaluation of procedures.
 
 ghost use Rattle.std.specs.Prelude.{[]};
-ghost use Rattle.gw_operands.specs.Meaning.{Evaluates};
+ghost use Rattle.gw_rules.specs.Meaning.{Evaluates};
 ghost use Rattle.gw_plus.specs.Activation.{Activates, Begins, HasGoodCode};
 ghost use Rattle.gw_plus.specs.Reading.{environment_of, IsOf, CanEvaluate};
 
@@ -9,8 +9,7 @@ use crate::activation::{Activation, Step, finished, opening_locals};
 use crate::env::Env;
 use arrayvec::ArrayVec;
 use gw_object::Parts;
-use gw_operands::PlusEnd;
-use gw_rules::Verified;
+use gw_rules::{PlusEnd, Verified};
 
 /// The value or the end of the procedure of this number, from 0, that begins with these locals.
 fn activate(

@@ -5,8 +5,7 @@ ghost use Rattle.gw_report.specs.Report.{Puts, block_line, block_lines};
 
 use crate::figures::Figures;
 use crate::text::{put, put_number};
-use gw_blocks::{Block, block_word};
-use gw_object::Memory;
+use gw_object::{Block, Memory, block_word};
 
 fn put_block_line(
     out: &mut Vec<u8>,

@@ -20,7 +20,7 @@ pub use entries::{BlockFigures, EntityFigures, TableFigures};
 pub use figures::Figures;
 use room::bytes_about;
 /// The word of a block in a model text.
-pub use gw_blocks::block_word;
+pub use gw_object::block_word;
 use gw_object::{Memory, Parts};
 use gw_scan::{End, Sim, Status};
 use std::alloc::Global;

@@ -3,7 +3,7 @@
 use crate::counting::{is_other_change, jump_of};
 use crate::graph::{Passage, Step, block_at};
 use crate::paths::Field;
-use gw_blocks::Block;
+use gw_object::Block;
 use gw_rules::Way;
 
 /// Why a round has no weight certificate, with the numbers of the blocks, from 1, that stand in the way.

@@ -1,8 +1,7 @@
 //! What steps do to parameters by which LOOPs count.
 
 use crate::graph::{Graph, Passage, Step, block_at, block_with_row, last_number};
-use gw_blocks::Block;
-use gw_object::{Memory, Parts};
+use gw_object::{Block, Memory, Parts};
 use gw_rules::{Treatment, changed_parameter, treats};
 use std::alloc::Global;
 

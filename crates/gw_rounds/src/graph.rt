@@ -3,8 +3,7 @@
 ghost use Rattle.std.specs.Prelude.{◌≡◌, ◌≤◌, option_map};
 ghost use Rattle.gw_rules.specs.Kinds as kinds;
 
-use gw_blocks::{Block, Link};
-use gw_object::{Memory, Parts, TableState};
+use gw_object::{Block, Link, Memory, Parts, TableState};
 use gw_rules::{Exit, Way, chain_row, exits};
 use gw_weights::{blocks_read, goes_at_once, own_row};
 use std::alloc::Global;

@@ -6,8 +6,7 @@ ghost use Rattle.gw_rules.specs.Seen.{row_meaning};
 ghost use Rattle.gw_rounds.specs.Rounds as model;
 
 use crate::graph::block_at;
-use gw_blocks::Block;
-use gw_object::{Parts, TableState};
+use gw_object::{Block, Parts, TableState};
 use gw_rules::{Exit, Way, chain_row, exits};
 use gw_weights::{blocks_read, goes_at_once, own_row};
 

@@ -10,8 +10,7 @@ use crate::counting::{
 use crate::graph::{Graph, Passage, Step, block_at, block_with_row};
 use crate::paths::{Field, Without};
 use crate::rounds::is_round;
-use gw_blocks::{Block, MOST_PARAMETERS};
-use gw_object::{Memory, Parts, Place};
+use gw_object::{Block, MOST_PARAMETERS, Memory, Parts, Place};
 use gw_rules::Treatment;
 use std::alloc::Global;
 

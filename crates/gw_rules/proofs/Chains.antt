@@ -1,9 +1,9 @@
 -- What blocks do with user chains, and the edges to these and from them.
 use Rattle.std.proofs.Common.{◌≡◌, [], refl}
-use Rattle.gw_blocks.specs.declared.parts.Link.{Link}
-use Rattle.gw_blocks.specs.declared.parts.Unlink.{Unlink}
-use Rattle.gw_blocks.specs.declared.parts.Block.{Block}
-use Rattle.gw_blocks.specs.declared.parts.Block.TheVariants as blocks
+use Rattle.gw_object.specs.declared.blocks.Link.{Link}
+use Rattle.gw_object.specs.declared.blocks.Unlink.{Unlink}
+use Rattle.gw_object.specs.declared.blocks.Block.{Block}
+use Rattle.gw_object.specs.declared.blocks.Block.TheVariants as blocks
 use Rattle.gw_rules.specs.Rows.{Row}
 use Rattle.gw_rules.specs.Blocks.{Table, joins, members_edges}
 

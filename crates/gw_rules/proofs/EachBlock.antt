@@ -2,7 +2,7 @@
 use Rattle.std.proofs.Common.{◌≡◌, ◌↔◌, ℕ, zero, suc, List, [], ◌∷◌, ◌++◌, map, Some, refl, arith}
 use Rattle.std.specs.Prelude.{All, Decides}
 use Rattle.std.proofs.lemmas.List.Elements.{All-nil, All-cons, All-head, All-tail}
-use Rattle.gw_blocks.specs.declared.parts.Block.{Block}
+use Rattle.gw_object.specs.declared.blocks.Block.{Block}
 use Rattle.gw_rules.specs.Checks.{Check, first_broken, checks_by_number}
 use Rattle.gw_rules.specs.Kinds.{block_at}
 use Rattle.gw_rules.proofs.Each.{Hold, first_and_others, first_with_others, at_number, each_holds, all_hold}

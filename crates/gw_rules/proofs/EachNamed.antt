@@ -4,10 +4,10 @@ use Rattle.std.specs.Prelude.{filter_map, IfSome}
 use Rattle.std.specs.List.{All, list_all, cons_option}
 use Rattle.std.specs.Option.{IsSome}
 use Rattle.std.proofs.lemmas.List.Elements.{All-nil, All-cons, All-head, All-tail}
-use Rattle.gw_blocks.specs.declared.parts.Block.{Block}
+use Rattle.gw_object.specs.declared.blocks.Block.{Block}
 use Rattle.gw_object.specs.declared.parts.Parts.{Parts}
 use Rattle.gw_rules.specs.Exits.{ways}
-use Rattle.gw_operands.specs.Sources.{values}
+use Rattle.gw_rules.specs.Sources.{values}
 use Rattle.gw_rules.specs.Kinds.{is_none_or, entity_of, own_entity, block_at, number_of, block_of}
 use Rattle.gw_rules.specs.KindsLaws.{IsEntity, BlockHolds}
 

@@ -11,10 +11,10 @@ use Rattle.std.proofs.lemmas.List.Sums.{AllPass-from_list_all, list_all-from_All
 use Rattle.gw_object.specs.declared.fault.Place.{Place}
 use Rattle.gw_object.specs.declared.fault.Place.TheVariants as places
 use Rattle.gw_object.specs.Entities.{is_chain}
-use Rattle.gw_code.specs.declared.parts.Instruction.{Instruction}
-use Rattle.gw_code.specs.declared.parts.Procedure.{Procedure}
+use Rattle.gw_object.specs.declared.code.Instruction.{Instruction}
+use Rattle.gw_object.specs.declared.code.Procedure.{Procedure}
 use Rattle.gw_object.specs.declared.parts.Entity.{Entity}
-use Rattle.gw_blocks.specs.declared.parts.Block.{Block}
+use Rattle.gw_object.specs.declared.blocks.Block.{Block}
 use Rattle.gw_object.specs.declared.parts.TableState.{TableState}
 use Rattle.gw_object.specs.declared.parts.ReturnRow.{ReturnRow}
 use Rattle.gw_object.specs.declared.parts.Parts.{Parts}
@@ -23,20 +23,14 @@ use Rattle.gw_rules.specs.declared.ways.Way.{Way}
 use Rattle.gw_rules.specs.declared.ways.Way.TheVariants.{Falls, Goes}
 use Rattle.gw_rules.specs.declared.ways.Exit.{Exit}
 use Rattle.gw_rules.specs.Checks.{Check, checks_by_number}
-use Rattle.gw_operands.specs.Sources.{operand_of, values}
+use Rattle.gw_rules.specs.Sources.{operand_of, values}
 use Rattle.gw_rules.specs.Exits.{leads_to, exits, other_way, ways}
-use Rattle.gw_rules.specs.Kinds.{is_none_or, named_entities, named_procedures, entities_of_row, names_no_other_kind, are_there, is_no_other_kind}
-use Rattle.gw_rules.specs.Kinds.{is_there, takes_no_arguments, is_procedure, is_block, block_at, is_generate, number_of, block_of, named_blocks}
-use Rattle.gw_rules.specs.Kinds.{has_named_blocks, leads_to_no_generate, stays_inside, is_call_at, return_rows_of, has_return_rows, names_well}
-use Rattle.gw_rules.specs.Kinds.{has_plain_argument, has_plain_half, entity_checks, naming_checks, exit_checks, constant_checks, return_checks}
-use Rattle.gw_rules.specs.Kinds.{row_checks, chain_row, chain_checks, block_checks}
+use Rattle.gw_rules.specs.Kinds.{is_none_or, named_entities, named_procedures, entities_of_row, names_no_other_kind, are_there, is_no_other_kind, is_there, takes_no_arguments, is_procedure, is_block, block_at, is_generate, number_of, block_of, named_blocks, has_named_blocks, leads_to_no_generate, stays_inside, is_call_at, return_rows_of, has_return_rows, names_well, has_plain_argument, has_plain_half, entity_checks, naming_checks, exit_checks, constant_checks, return_checks, row_checks, chain_row, chain_checks, block_checks}
 use Rattle.gw_rules.specs.Procedures.{entity_in, procedure_in, block_in, draws_nothing, instruction_checks, procedure_checks}
 use Rattle.gw_rules.specs.Pass.{chain_and_block_checks, row_and_later_checks, return_and_later_checks, procedure_and_later_checks, kinds_checks}
-use Rattle.gw_rules.specs.KindsLaws.{IsEntity, MayBeEntered, TakesNoArguments, EntityHolds, InstructionHolds, ProcedureHolds, ReturnsHold, RowHolds}
-use Rattle.gw_rules.specs.KindsLaws.{ChainHolds, BlockHolds, KindsPassAtEachPlace}
+use Rattle.gw_rules.specs.KindsLaws.{IsEntity, MayBeEntered, TakesNoArguments, EntityHolds, InstructionHolds, ProcedureHolds, ReturnsHold, RowHolds, ChainHolds, BlockHolds, KindsPassAtEachPlace}
 use Rattle.gw_rules.proofs.Each.{Hold, at_number, first_and_others, first_with_others, parts_hold, hold_together, each_holds, all_hold, each_has, from_each}
-use Rattle.gw_rules.proofs.NamedHold.{if_any, tests_any, one_is, one_passes, each_is, each_passes, is_entity, from_entity, takes_none}
-use Rattle.gw_rules.proofs.NamedHold.{from_takes_none, operand_if, passes_if}
+use Rattle.gw_rules.proofs.NamedHold.{if_any, tests_any, one_is, one_passes, each_is, each_passes, is_entity, from_entity, takes_none, from_takes_none, operand_if, passes_if}
 
 -- ENTITIES
 

@@ -5,25 +5,21 @@ use Rattle.std.specs.Prelude.{All, IsSomeAnd, is_some, map}
 use Rattle.std.specs.List.{flat_map, list_all}
 use Rattle.std.proofs.lemmas.Bool.{cases_eq, ne_eqb, le-leb, leb-true, and_parts, false≢true, not-false}
 use Rattle.std.proofs.lemmas.List.Elements.{All-nil, All-cons, All-head, All-tail, All-append}
-use Rattle.gw_blocks.specs.declared.parts.Block.{Block}
-use Rattle.gw_blocks.specs.declared.parts.Block.TheVariants as blocks
+use Rattle.gw_object.specs.declared.blocks.Block.{Block}
+use Rattle.gw_object.specs.declared.blocks.Block.TheVariants as blocks
 use Rattle.gw_object.specs.declared.parts.Parts.{Parts}
 use Rattle.gw_rules.specs.declared.ways.Who.{Who}
 use Rattle.gw_rules.specs.declared.ways.Who.TheVariants.{Itself, Copies}
 use Rattle.gw_rules.specs.declared.ways.Exit.{Exit}
 use Rattle.gw_rules.specs.Exits.{leads_to, exits, returns_to}
-use Rattle.gw_operands.specs.Sources.{evaluation_operands}
+use Rattle.gw_rules.specs.Sources.{evaluation_operands}
 use Rattle.gw_rules.specs.FlowCodes as codes
 use Rattle.gw_rules.specs.Entries.{lists, with_number, without_number}
-use Rattle.gw_rules.specs.Rows.{Row, ParamKind, Num, Ret, kind_of, is_number, is_return, return_blocks, units_of, with_parameter, with_facility}
-use Rattle.gw_rules.specs.Rows.{without_facility, with_units, kind_fits, Fits}
-use Rattle.gw_rules.specs.Blocks.{FlowEdge}
+use Rattle.gw_rules.specs.Rows.{Row, ParamKind, Num, Ret, kind_of, is_number, is_return, return_blocks, units_of, with_parameter, with_facility, without_facility, with_units, kind_fits, Fits}
+use Rattle.gw_rules.specs.Blocks.{FlowEdge, Table, Rule, rule, holds_units, number_rules, return_rules, parameters_read, value_rules, replaces, own_rules, parameter_set, with_setting, after, move, is_used, known_of, edge_along, edges_along, edges_from, join, members_edges, chain_edges}
 use Rattle.gw_rules.specs.declared.edges.Target.TheVariants as targets
 use Rattle.gw_rules.specs.declared.set_parameters.Parameter.{Parameter}
 use Rattle.gw_rules.specs.Seen.{kind_seen}
-use Rattle.gw_rules.specs.Blocks.{Table, Rule, rule, holds_units, number_rules, return_rules, parameters_read, value_rules, replaces, own_rules}
-use Rattle.gw_rules.specs.Blocks.{parameter_set, with_setting, after, move, is_used, known_of, edge_along, edges_along, edges_from, join}
-use Rattle.gw_rules.specs.Blocks.{members_edges, chain_edges}
 use Rattle.gw_rules.specs.FlowLaws.{forbids, FittingStatesPass}
 use Rattle.gw_rules.proofs.Chains.{ChainUse, Links, Unlinks, Neither, chain_use}
 use Rattle.gw_rules.proofs.Entries.{entry-with_entry, amount-with_entry}

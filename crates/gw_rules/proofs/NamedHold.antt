@@ -5,15 +5,14 @@ use Rattle.std.specs.List.{All, list_all}
 use Rattle.std.specs.Option.{IsSome, IsSomeAnd}
 use Rattle.std.proofs.lemmas.Bool.{and_parts, and_from, eqb-true, eq-eqb, ltb-true, lt-ltb}
 use Rattle.std.proofs.lemmas.List.Elements.{All-nil, All-cons, All-head, All-tail}
-use Rattle.gw_code.specs.declared.parts.Procedure.{Procedure}
-use Rattle.gw_blocks.specs.declared.parts.Operand.{Operand}
+use Rattle.gw_object.specs.declared.code.Procedure.{Procedure}
+use Rattle.gw_object.specs.declared.blocks.Operand.{Operand}
 use Rattle.gw_object.specs.declared.parts.Entity.{Entity}
 use Rattle.gw_object.specs.declared.parts.Parts.{Parts}
 use Rattle.gw_rules.specs.declared.entities.EntityKind.{EntityKind}
 use Rattle.gw_rules.specs.declared.entities.Named.{Named}
-use Rattle.gw_operands.specs.Sources.{kind_at, procedure_named}
-use Rattle.gw_rules.specs.Kinds.{is_none_or, serves_as, is_no_other_kind, is_there, takes_no_arguments, is_procedure, is_block, block_at, entity_of}
-use Rattle.gw_rules.specs.Kinds.{block_of, names_well, names_what_is_there, names_a_block}
+use Rattle.gw_rules.specs.Sources.{kind_at, procedure_named}
+use Rattle.gw_rules.specs.Kinds.{is_none_or, serves_as, is_no_other_kind, is_there, takes_no_arguments, is_procedure, is_block, block_at, entity_of, block_of, names_well, names_what_is_there, names_a_block}
 use Rattle.gw_rules.specs.KindsLaws.{IsEntity, TakesNoArguments, OperandHolds}
 
 -- ONE TEST

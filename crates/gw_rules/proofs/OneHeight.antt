@@ -6,13 +6,12 @@ use Rattle.std.proofs.lemmas.List.Elements.{All-nil, All-cons, All-head, All-tai
 use Rattle.std.specs.Prelude.{slice_get}
 use Rattle.std.proofs.lemmas.Option.{slice_get_within}
 use Rattle.gw_num.specs.Table.{at}
-use Rattle.gw_code.specs.declared.parts.Instruction.{Instruction}
-use Rattle.gw_code.specs.declared.parts.Procedure.{Procedure}
+use Rattle.gw_object.specs.declared.code.Instruction.{Instruction}
+use Rattle.gw_object.specs.declared.code.Procedure.{Procedure}
 use Rattle.gw_object.specs.declared.parts.Parts.{Parts}
 use Rattle.gw_rules.proofs.Each.{Hold, first_with_others, hold_together}
-use Rattle.gw_operands.specs.Code.{procedure_at, most_values, targets, is_among, cost_of_code, costs_from, costs_of}
-use Rattle.gw_rules.specs.PlusChecks.{Heights, agrees, known_height, height_after, spread, instruction_checks, code_checks, has_code, greatest_cost}
-use Rattle.gw_rules.specs.PlusChecks.{procedure_checks, checks_from, plus_checks, PlusPasses}
+use Rattle.gw_rules.specs.Code.{procedure_at, most_values, targets, is_among, cost_of_code, costs_from, costs_of}
+use Rattle.gw_rules.specs.PlusChecks.{Heights, agrees, known_height, height_after, spread, instruction_checks, code_checks, has_code, greatest_cost, procedure_checks, checks_from, plus_checks, PlusPasses}
 use Rattle.gw_rules.specs.OneHeight.{RulesHold, HasHeights, PlusPassesByHeights}
 use Rattle.gw_rules.proofs.PlusSteps.{Fine, Lead}
 use Rattle.gw_rules.proofs.PlusRules.{all_agree, Grows, spread_grows, spread_leads, spread_known, own_cost, checked}

@@ -3,17 +3,16 @@ use Rattle.std.proofs.Common.{◌≡◌, ℕ, zero, suc, ◌+◌, ◌<◌, ◌�
 use Rattle.std.proofs.lemmas.Option.{slice_get-get_or}
 use Rattle.std.specs.Prelude.{All, slice_get}
 use Rattle.gw_num.specs.Table.{at}
-use Rattle.gw_code.specs.declared.parts.Instruction.{Instruction}
-use Rattle.gw_code.specs.declared.parts.Instruction.TheVariants.{Return}
-use Rattle.gw_code.specs.declared.parts.Procedure.{Procedure}
+use Rattle.gw_object.specs.declared.code.Instruction.{Instruction}
+use Rattle.gw_object.specs.declared.code.Instruction.TheVariants.{Return}
+use Rattle.gw_object.specs.declared.code.Procedure.{Procedure}
 use Rattle.gw_object.specs.declared.parts.Parts.{Parts}
 use Rattle.gw_rules.specs.KindsLaws.{EntityHolds, ProcedureHolds}
-use Rattle.gw_operands.specs.declared.ends.PlusEnd.{PlusEnd}
-use Rattle.gw_operands.specs.Environment.{Environment}
-use Rattle.gw_operands.specs.Code.{procedure_at}
+use Rattle.gw_rules.specs.declared.ends.PlusEnd.{PlusEnd}
+use Rattle.gw_rules.specs.Environment.{Environment}
+use Rattle.gw_rules.specs.Code.{procedure_at}
 use Rattle.gw_rules.specs.PlusChecks.{Heights}
-use Rattle.gw_operands.specs.Meaning.{Frame, Next, Goes, Calls, Returns, Ends, Stuck, push_value, next, opening_frame, Derives, returns, ends, goes}
-use Rattle.gw_operands.specs.Meaning.{call_ends, call_gives}
+use Rattle.gw_rules.specs.Meaning.{Frame, Next, Goes, Calls, Returns, Ends, Stuck, push_value, next, opening_frame, Derives, returns, ends, goes, call_ends, call_gives}
 use Rattle.gw_rules.specs.PlusLaws.{HasSet}
 use Rattle.gw_rules.proofs.Potential.{cost_drop}
 use Rattle.gw_rules.proofs.PlusSteps.{Fine, Ready, left, Answered, Well, next_well_typed}

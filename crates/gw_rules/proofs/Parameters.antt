@@ -4,13 +4,13 @@ use Rattle.std.specs.Prelude.{All, is_some, filter, ◌==◌}
 use Rattle.std.specs.List.{flat_map, fold}
 use Rattle.std.proofs.lemmas.Bool.{cases_order, eq-eqb, eqb-true, ne_eqb, lt-ltb, le-ltb, or_cases, false≢true}
 use Rattle.std.proofs.lemmas.List.Elements.{All-nil, All-cons, All-head, All-tail}
-use Rattle.gw_blocks.specs.declared.parts.Operand.{Operand}
-use Rattle.gw_blocks.specs.declared.parts.Loop.{Loop}
-use Rattle.gw_blocks.specs.declared.parts.Block.{Block}
-use Rattle.gw_blocks.specs.declared.parts.Block.TheVariants as blocks
+use Rattle.gw_object.specs.declared.blocks.Operand.{Operand}
+use Rattle.gw_object.specs.declared.blocks.Loop.{Loop}
+use Rattle.gw_object.specs.declared.blocks.Block.{Block}
+use Rattle.gw_object.specs.declared.blocks.Block.TheVariants as blocks
 use Rattle.gw_object.specs.declared.parts.Parts.{Parts}
-use Rattle.gw_operands.specs.Sources.{evaluation_operands}
-use Rattle.gw_operands.specs.Code.{parameters_asked, is_among}
+use Rattle.gw_rules.specs.Sources.{evaluation_operands}
+use Rattle.gw_rules.specs.Code.{parameters_asked, is_among}
 use Rattle.gw_rules.specs.FlowCodes as codes
 use Rattle.gw_rules.specs.Entries.{with_number}
 use Rattle.gw_rules.specs.Rows.{Row, ParamKind, Num, Ret, kind_of, is_number, is_return, with_parameter}

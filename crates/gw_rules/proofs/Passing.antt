@@ -3,15 +3,14 @@ use Rattle.std.proofs.Common.{◌≡◌, ◌↔◌, ℕ, List, [], ◌∷◌, �
 use Rattle.std.specs.Prelude.{All, Decides, IsSome, IsSomeAnd}
 use Rattle.std.proofs.lemmas.Bool.{false≢true}
 use Rattle.std.proofs.lemmas.List.{map-append}
-use Rattle.gw_blocks.specs.declared.parts.Block.{Block}
+use Rattle.gw_object.specs.declared.blocks.Block.{Block}
 use Rattle.gw_object.specs.declared.parts.Parts.{Parts}
 use Rattle.gw_rules.specs.Checks.{first_broken}
 use Rattle.gw_rules.specs.Kinds.{block_at, is_generate}
 use Rattle.gw_rules.specs.FlowCodes as codes
 use Rattle.gw_rules.specs.Rows.{Row, nothing_known, Fits}
 use Rattle.gw_rules.specs.declared.edges.Target.TheVariants as targets
-use Rattle.gw_rules.specs.Blocks.{FlowEdge}
-use Rattle.gw_rules.specs.Blocks.{Table, Rule, rule, value_rules, rules, edges}
+use Rattle.gw_rules.specs.Blocks.{FlowEdge, Table, Rule, rule, value_rules, rules, edges}
 use Rattle.gw_rules.specs.Flow.{fits_row, rule_check, edge_check, rule_checks, edge_checks, checks_in, checks_at, flow_checks, FlowPasses}
 use Rattle.gw_rules.specs.FlowLaws.{MayPass, FlowHolds, FlowPassesAtEachBlock}
 use Rattle.gw_rules.proofs.Each.{Hold, parts_hold, hold_together}

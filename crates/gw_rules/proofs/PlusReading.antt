@@ -4,18 +4,18 @@ use Rattle.std.proofs.lemmas.Bool.{ltb-true}
 use Rattle.std.proofs.lemmas.Bool.Decides.{nat_tests}
 use Rattle.std.specs.Prelude.{◌==◌}
 use Rattle.gw_num.specs.Table.{at}
-use Rattle.gw_blocks.specs.declared.parts.Numbered.{Numbered}
-use Rattle.gw_blocks.specs.declared.parts.Operand.{Operand}
-use Rattle.gw_blocks.specs.declared.parts.Operand.TheVariants.{Constant, Parameter, Attribute, OfEntity, Random, Procedure as ValueOf}
-use Rattle.gw_code.specs.declared.parts.Sna.{Sna}
-use Rattle.gw_code.specs.declared.parts.Instruction.TheVariants.{Value}
-use Rattle.gw_code.specs.declared.parts.Procedure.{Procedure}
+use Rattle.gw_object.specs.declared.blocks.Numbered.{Numbered}
+use Rattle.gw_object.specs.declared.blocks.Operand.{Operand}
+use Rattle.gw_object.specs.declared.blocks.Operand.TheVariants.{Constant, Parameter, Attribute, OfEntity, Random, Procedure as ValueOf}
+use Rattle.gw_object.specs.declared.code.Sna.{Sna}
+use Rattle.gw_object.specs.declared.code.Instruction.TheVariants.{Value}
+use Rattle.gw_object.specs.declared.code.Procedure.{Procedure}
 use Rattle.gw_object.specs.declared.parts.Parts.{Parts}
-use Rattle.gw_operands.specs.Sources.{source_of, as_operand, is_drawn, procedure_named}
+use Rattle.gw_rules.specs.Sources.{source_of, as_operand, is_drawn, procedure_named}
 use Rattle.gw_rules.specs.KindsLaws.{OperandHolds, EntityHolds, InstructionHolds}
 use Rattle.gw_rules.proofs.Sources.{is_evaluated, source_holds, source_is_kept, source_takes_none, read_holds, read_is_not_drawn}
-use Rattle.gw_operands.specs.Code.{procedure_at, needs_of, called_in, calls_lower, asked_by_source, asks_for}
-use Rattle.gw_operands.specs.Environment.{Environment}
+use Rattle.gw_rules.specs.Code.{procedure_at, needs_of, called_in, calls_lower, asked_by_source, asks_for}
+use Rattle.gw_rules.specs.Environment.{Environment}
 use Rattle.gw_rules.specs.PlusLaws.{HasSet}
 
 -- the procedure n may call the procedure q without arguments: that one is lower and takes none, and the parameters that it needs are set

@@ -6,15 +6,13 @@ use Rattle.std.specs.Prelude.{slice_get}
 use Rattle.std.specs.List.{list_all}
 use Rattle.gw_num.specs.Table.{at, put}
 use Rattle.gw_num.proofs.Tables.{at-put, by_entry}
-use Rattle.gw_code.specs.declared.parts.Instruction.{Instruction}
-use Rattle.gw_code.specs.declared.parts.Procedure.{Procedure}
+use Rattle.gw_object.specs.declared.code.Instruction.{Instruction}
+use Rattle.gw_object.specs.declared.code.Procedure.{Procedure}
 use Rattle.gw_object.specs.declared.parts.Entity.{Entity}
 use Rattle.gw_object.specs.declared.parts.Parts.{Parts}
 use Rattle.gw_rules.proofs.Each.{Hold, first_and_others, parts_hold}
-use Rattle.gw_operands.specs.Code.{procedure_at, most_values, takes, targets, leads_well, called_in, calls_lower, asks_for, is_among, turns_of}
-use Rattle.gw_operands.specs.Code.{cost_of_called, cost_of_body, cost_of_code, costs_from, costs_of}
-use Rattle.gw_rules.specs.PlusChecks.{Heights, agrees, known_height, height_after, spread, instruction_checks, code_checks, has_code, greatest_cost}
-use Rattle.gw_rules.specs.PlusChecks.{procedure_checks, checks_from, plus_checks, PlusPasses}
+use Rattle.gw_rules.specs.Code.{procedure_at, most_values, takes, targets, leads_well, called_in, calls_lower, asks_for, is_among, turns_of, cost_of_called, cost_of_body, cost_of_code, costs_from, costs_of}
+use Rattle.gw_rules.specs.PlusChecks.{Heights, agrees, known_height, height_after, spread, instruction_checks, code_checks, has_code, greatest_cost, procedure_checks, checks_from, plus_checks, PlusPasses}
 use Rattle.gw_rules.specs.OneHeight.{IsLedTo}
 use Rattle.gw_rules.proofs.PlusSteps.{Fine, Sound, Lead}
 

@@ -13,24 +13,22 @@ use Rattle.gw_num.specs.declared.arithmetic.NumFault.{NumFault}
 use Rattle.gw_num.specs.Arithmetic.{is_zero}
 use Rattle.gw_num.specs.Operators.{binary_value, unary_value}
 use Rattle.gw_num.specs.Table.{at}
-use Rattle.gw_blocks.specs.declared.parts.Operand.{Operand}
-use Rattle.gw_blocks.specs.declared.parts.Operand.TheVariants.{Constant, Parameter, Attribute, OfEntity, Random, Procedure as ValueOf}
-use Rattle.gw_code.specs.declared.parts.Back.{Back as JumpBack}
-use Rattle.gw_code.specs.declared.parts.Sna.{Sna}
-use Rattle.gw_code.specs.declared.parts.Instruction.{Instruction}
-use Rattle.gw_code.specs.declared.parts.Instruction.TheVariants.{Push, Get, Set, Value, Binary, Unary, Pop, Jump, JumpIfZero, Back, Call, Return}
-use Rattle.gw_code.specs.declared.parts.Procedure.{Procedure}
+use Rattle.gw_object.specs.declared.blocks.Operand.{Operand}
+use Rattle.gw_object.specs.declared.blocks.Operand.TheVariants.{Constant, Parameter, Attribute, OfEntity, Random, Procedure as ValueOf}
+use Rattle.gw_object.specs.declared.code.Back.{Back as JumpBack}
+use Rattle.gw_object.specs.declared.code.Sna.{Sna}
+use Rattle.gw_object.specs.declared.code.Instruction.{Instruction}
+use Rattle.gw_object.specs.declared.code.Instruction.TheVariants.{Push, Get, Set, Value, Binary, Unary, Pop, Jump, JumpIfZero, Back, Call, Return}
+use Rattle.gw_object.specs.declared.code.Procedure.{Procedure}
 use Rattle.gw_object.specs.declared.parts.Parts.{Parts}
-use Rattle.gw_operands.specs.Sources.{source_of, as_operand, procedure_named}
+use Rattle.gw_rules.specs.Sources.{source_of, as_operand, procedure_named}
 use Rattle.gw_rules.specs.KindsLaws.{EntityHolds, ProcedureHolds, InstructionHolds}
-use Rattle.gw_operands.specs.declared.ends.PlusEnd.TheVariants.{LoopLimit}
-use Rattle.gw_operands.specs.Environment.{Environment, attribute_value}
-use Rattle.gw_operands.specs.Code.{procedure_at, arguments_of, needs_of, most_values, takes, targets, leads_well, called_in, calls_lower, asks_for}
-use Rattle.gw_operands.specs.Code.{is_among, cost_of_called, cost_of_instruction, cost_of_body}
-use Rattle.gw_operands.specs.Results.{value_by_operand}
+use Rattle.gw_rules.specs.declared.ends.PlusEnd.TheVariants.{LoopLimit}
+use Rattle.gw_rules.specs.Environment.{Environment, attribute_value}
+use Rattle.gw_rules.specs.Code.{procedure_at, arguments_of, needs_of, most_values, takes, targets, leads_well, called_in, calls_lower, asks_for, is_among, cost_of_called, cost_of_instruction, cost_of_body}
+use Rattle.gw_rules.specs.Results.{value_by_operand}
 use Rattle.gw_rules.specs.PlusChecks.{Heights, height_after}
-use Rattle.gw_operands.specs.Meaning.{taken_at, take_once, Frame, Next, Goes, Calls, Returns, Ends, Stuck, on, push_value, pop_value, calculate}
-use Rattle.gw_operands.specs.Meaning.{calls_with, reads_source, act, next, opening_frame}
+use Rattle.gw_rules.specs.Meaning.{taken_at, take_once, Frame, Next, Goes, Calls, Returns, Ends, Stuck, on, push_value, pop_value, calculate, calls_with, reads_source, act, next, opening_frame}
 use Rattle.gw_rules.specs.PlusLaws.{HasSet, CodeHolds}
 use Rattle.gw_rules.proofs.Potential.{left_turns, potential, cost_drop, cost_later, turn_taken}
 use Rattle.gw_rules.proofs.PlusReading.{MayRead, may_read}

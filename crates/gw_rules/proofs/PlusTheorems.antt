@@ -3,19 +3,19 @@ use Rattle.std.proofs.Common.{◌≡◌, ℕ, zero, suc, ◌<◌, [], Option, So
 use Rattle.gw_num.specs.Table.{at}
 use Rattle.std.specs.Prelude.{All}
 use Rattle.std.proofs.lemmas.Option.{slice_get_within, get_or_from_slice_get}
-use Rattle.gw_code.specs.Grammar.{ProcedureFits}
+use Rattle.gw_object.specs.CodeGrammar.{ProcedureFits}
 use Rattle.gw_object.specs.Grammar.{HasSpelling}
 use Rattle.gw_rules.specs.KindsLaws.{ProcedureHolds}
 use Rattle.gw_rules.specs.Pass.{KindsPass}
 use Rattle.gw_rules.proofs.KindsHold.{kinds_pass_at_each_place}
-use Rattle.gw_code.specs.declared.parts.Procedure.{Procedure}
+use Rattle.gw_object.specs.declared.code.Procedure.{Procedure}
 use Rattle.gw_object.specs.declared.parts.Parts.{Parts}
-use Rattle.gw_operands.specs.declared.ends.PlusEnd.{PlusEnd}
-use Rattle.gw_operands.specs.Environment.{Environment}
-use Rattle.gw_operands.specs.Code.{procedure_at, costs_of}
+use Rattle.gw_rules.specs.declared.ends.PlusEnd.{PlusEnd}
+use Rattle.gw_rules.specs.Environment.{Environment}
+use Rattle.gw_rules.specs.Code.{procedure_at, costs_of}
 use Rattle.gw_rules.specs.PlusChecks.{PlusPasses}
-use Rattle.gw_operands.specs.Meaning.{Derives, Evaluates, opening_frame}
-use Rattle.gw_operands.specs.Outcome.{outcome_of}
+use Rattle.gw_rules.specs.Meaning.{Derives, Evaluates, opening_frame}
+use Rattle.gw_rules.specs.Outcome.{outcome_of}
 use Rattle.gw_rules.specs.PlusLaws.{CodeHolds, MayBegin, OneOutcome, HasOutcome, CostBounds, OutcomesAreEvaluated}
 use Rattle.gw_rules.proofs.Potential.{opened_left}
 use Rattle.gw_rules.proofs.PlusSteps.{opened_stands, left}

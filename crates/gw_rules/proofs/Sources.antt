@@ -4,25 +4,24 @@ use Rattle.std.specs.Prelude.{IfSome, IsTrue, slice_get, unwrap_or, option_to_li
 use Rattle.std.specs.List.{All}
 use Rattle.std.specs.Option.{IsSomeAnd}
 use Rattle.std.proofs.lemmas.List.Elements.{All-nil, All-cons, All-head, All-tail}
-use Rattle.gw_code.specs.declared.parts.Sna.{Sna}
-use Rattle.gw_code.specs.declared.parts.Sna.TheVariants.{Parameter, Attribute, OfEntity}
-use Rattle.gw_code.specs.declared.parts.Instruction.TheVariants.{Value}
-use Rattle.gw_code.specs.declared.parts.Procedure.{Procedure}
-use Rattle.gw_blocks.specs.declared.parts.EntityAttribute.{EntityAttribute}
-use Rattle.gw_blocks.specs.declared.parts.EntityAttribute.TheVariants.{VariableValue, BooleanValue, FunctionValue}
-use Rattle.gw_blocks.specs.declared.parts.Numbered.{Numbered}
-use Rattle.gw_blocks.specs.declared.parts.Operand.{Operand}
-use Rattle.gw_blocks.specs.declared.parts.Operand.TheVariants as operands
-use Rattle.gw_blocks.specs.declared.parts.Block.{Block}
-use Rattle.gw_blocks.specs.declared.parts.Block.TheVariants as blocks
+use Rattle.gw_object.specs.declared.code.Sna.{Sna}
+use Rattle.gw_object.specs.declared.code.Sna.TheVariants.{Parameter, Attribute, OfEntity}
+use Rattle.gw_object.specs.declared.code.Instruction.TheVariants.{Value}
+use Rattle.gw_object.specs.declared.code.Procedure.{Procedure}
+use Rattle.gw_object.specs.declared.blocks.EntityAttribute.{EntityAttribute}
+use Rattle.gw_object.specs.declared.blocks.EntityAttribute.TheVariants.{VariableValue, BooleanValue, FunctionValue}
+use Rattle.gw_object.specs.declared.blocks.Numbered.{Numbered}
+use Rattle.gw_object.specs.declared.blocks.Operand.{Operand}
+use Rattle.gw_object.specs.declared.blocks.Operand.TheVariants as operands
+use Rattle.gw_object.specs.declared.blocks.Block.{Block}
+use Rattle.gw_object.specs.declared.blocks.Block.TheVariants as blocks
 use Rattle.gw_object.specs.declared.parts.Kind.{Kind}
 use Rattle.gw_object.specs.declared.parts.Kind.TheVariants as kinds
 use Rattle.gw_object.specs.declared.parts.Entity.{Entity}
 use Rattle.gw_object.specs.declared.parts.Parts.{Parts}
 use Rattle.gw_rules.specs.declared.entities.EntityKind.{EntityKind}
 use Rattle.gw_rules.specs.declared.entities.EntityKind.TheVariants.{Variable, BooleanVariable, Function}
-use Rattle.gw_operands.specs.Sources.{kind_at, operand_of, operand_at, values, evaluation_operands, if_function, if_variable, argument_in, call_in}
-use Rattle.gw_operands.specs.Sources.{source_of, as_operand, procedure_named, is_function_value, is_drawn}
+use Rattle.gw_rules.specs.Sources.{kind_at, operand_of, operand_at, values, evaluation_operands, if_function, if_variable, argument_in, call_in, source_of, as_operand, procedure_named, is_function_value, is_drawn}
 use Rattle.gw_rules.specs.Kinds.{serves_as, has_plain_argument}
 use Rattle.gw_rules.specs.KindsLaws.{TakesNoArguments, OperandHolds, EntityHolds, InstructionHolds, BlockHolds}
 use Rattle.gw_rules.proofs.EachNamed.{each_names, entities_of_values, blocks_of_values}

@@ -8,9 +8,9 @@ use Rattle.std.proofs.lemmas.Bool.{leb-true, le-leb, eqb-true, eq-eqb, and_parts
 use Rattle.std.proofs.lemmas.List.Elements.{All-nil, All-cons, All-head, All-tail}
 use Rattle.std.proofs.lemmas.List.Sums.{sum_by-cons}
 use Rattle.std.proofs.lemmas.Option.{slice_get_within}
-use Rattle.gw_blocks.specs.declared.parts.Generate.{Generate}
-use Rattle.gw_blocks.specs.declared.parts.Block.{Block}
-use Rattle.gw_blocks.specs.declared.parts.Block.TheVariants as blocks
+use Rattle.gw_object.specs.declared.blocks.Generate.{Generate}
+use Rattle.gw_object.specs.declared.blocks.Block.{Block}
+use Rattle.gw_object.specs.declared.blocks.Block.TheVariants as blocks
 use Rattle.gw_object.specs.declared.fault.Fault.{Fault}
 use Rattle.gw_object.specs.declared.fault.Place.TheVariants as places
 use Rattle.gw_object.specs.declared.parts.Entity.{Entity}
@@ -25,7 +25,7 @@ use Rattle.gw_rules.specs.declared.ways.Who.{Who}
 use Rattle.gw_rules.specs.declared.ways.Who.TheVariants.{Itself, Copies}
 use Rattle.gw_rules.specs.Checks.{Check, check}
 use Rattle.gw_rules.specs.Exits.{leads_to, exits_with}
-use Rattle.gw_operands.specs.Sources.{kind_at}
+use Rattle.gw_rules.specs.Sources.{kind_at}
 use Rattle.gw_rules.specs.Kinds.{block_at, chain_place}
 use Rattle.gw_rules.proofs.Each.{Hold, first_and_others, first_with_others, parts_hold, hold_together}
 use Rattle.gw_rules.specs.Rows.{ParamKind, Num, Ret, Row, kind_of}
@@ -36,9 +36,7 @@ use Rattle.gw_rules.proofs.EachBlock.{numbered_holds, all_numbered_hold}
 use Rattle.gw_rules.specs.WeightsCodes as codes
 use Rattle.gw_rules.specs.declared.slopes.Treatment.{Treatment}
 use Rattle.gw_rules.specs.declared.slopes.Treatment.TheVariants.{Keeps, SetsTo, Lowers, RunsOut, Changes}
-use Rattle.gw_rules.specs.Weights.{weight_at, chain_weight, slope_at, per_of, treats, covers, pays_slope, pays_to, is_on, pays_copies, pays_way}
-use Rattle.gw_rules.specs.Weights.{is_number, slope_checks, goes_at_once, is_bounded, arrival_checks, chain_checks, exit_checks, row_checks}
-use Rattle.gw_rules.specs.Weights.{checks_at, weight_checks, WeightsPass}
+use Rattle.gw_rules.specs.Weights.{weight_at, chain_weight, slope_at, per_of, treats, covers, pays_slope, pays_to, is_on, pays_copies, pays_way, is_number, slope_checks, goes_at_once, is_bounded, arrival_checks, chain_checks, exit_checks, row_checks, checks_at, weight_checks, WeightsPass}
 use Rattle.gw_rules.specs.WeightsLaws.{Covers, PaysSlope, PaysTo, IsOn, PaysCopies, PaysWay, PaysExit, PaysChain, Pays, Weighted, WeightsPassWhereWeighted}
 
 -- CHECKS

@@ -3,19 +3,18 @@ use Rattle.std.proofs.Common.{◌≡◌, ℕ, zero, suc, ◌+◌, List, [], Opti
 use Rattle.std.specs.Prelude.{slice_get}
 use Rattle.std.specs.Option.{option_and_then}
 use Rattle.gw_num.specs.Table.{at}
-use Rattle.gw_blocks.specs.declared.parts.Operand.{Operand}
-use Rattle.gw_blocks.specs.declared.parts.Operand.TheVariants.{Constant, Parameter, Attribute, OfEntity, Random, Procedure as ValueOf}
-use Rattle.gw_code.specs.declared.parts.Instruction.{Instruction}
-use Rattle.gw_code.specs.declared.parts.Instruction.TheVariants.{Push, Get, Set, Value, Binary, Unary, Pop, Jump, JumpIfZero, Back, Call, Return}
+use Rattle.gw_object.specs.declared.blocks.Operand.{Operand}
+use Rattle.gw_object.specs.declared.blocks.Operand.TheVariants.{Constant, Parameter, Attribute, OfEntity, Random, Procedure as ValueOf}
+use Rattle.gw_object.specs.declared.code.Instruction.{Instruction}
+use Rattle.gw_object.specs.declared.code.Instruction.TheVariants.{Push, Get, Set, Value, Binary, Unary, Pop, Jump, JumpIfZero, Back, Call, Return}
 use Rattle.gw_object.specs.declared.parts.Parts.{Parts}
-use Rattle.gw_operands.specs.Sources.{source_of, as_operand}
-use Rattle.gw_operands.specs.declared.ends.PlusEnd.{PlusEnd}
-use Rattle.gw_operands.specs.Environment.{Environment, ReadTheSame}
-use Rattle.gw_operands.specs.Code.{procedure_at, costs_of}
-use Rattle.gw_operands.specs.Results.{value_by_operand}
-use Rattle.gw_operands.specs.Meaning.{Frame, Next, Goes, Calls, Returns, Ends, Stuck, on, push_value, or_stuck, reads_source, act, next}
-use Rattle.gw_operands.specs.Meaning.{opening_frame, Derives, returns, ends, goes, call_ends, call_gives}
-use Rattle.gw_operands.specs.Outcome.{Answer, if_going, once_called, answer_by, answer_within, outcome_of}
+use Rattle.gw_rules.specs.Sources.{source_of, as_operand}
+use Rattle.gw_rules.specs.declared.ends.PlusEnd.{PlusEnd}
+use Rattle.gw_rules.specs.Environment.{Environment, ReadTheSame}
+use Rattle.gw_rules.specs.Code.{procedure_at, costs_of}
+use Rattle.gw_rules.specs.Results.{value_by_operand}
+use Rattle.gw_rules.specs.Meaning.{Frame, Next, Goes, Calls, Returns, Ends, Stuck, on, push_value, or_stuck, reads_source, act, next, opening_frame, Derives, returns, ends, goes, call_ends, call_gives}
+use Rattle.gw_rules.specs.Outcome.{Answer, if_going, once_called, answer_by, answer_within, outcome_of}
 use Rattle.gw_rules.specs.PlusLaws.{AnswersAreDerived, DerivedIsAnswered, OutcomesDependOnWhatIsKept}
 
 -- WHAT IS ANSWERED IS DERIVED

@@ -4,19 +4,19 @@ use Rattle.std.specs.List.{flat_map}
 use Rattle.std.specs.Option.{option_map, option_map_or}
 use Rattle.gw_object.specs.Entities.{capacity_of}
 use Rattle.gw_object.specs.declared.parts.Entity.{Entity}
-use Rattle.gw_blocks.specs.declared.parts.Mode.{Mode}
-use Rattle.gw_blocks.specs.declared.parts.Mode.TheVariants.{Set, Add, Subtract}
-use Rattle.gw_blocks.specs.declared.parts.Operand.{Operand}
-use Rattle.gw_blocks.specs.declared.parts.Block.{Block}
-use Rattle.gw_blocks.specs.declared.parts.Block.TheVariants as blocks
+use Rattle.gw_object.specs.declared.blocks.Mode.{Mode}
+use Rattle.gw_object.specs.declared.blocks.Mode.TheVariants.{Set, Add, Subtract}
+use Rattle.gw_object.specs.declared.blocks.Operand.{Operand}
+use Rattle.gw_object.specs.declared.blocks.Block.{Block}
+use Rattle.gw_object.specs.declared.blocks.Block.TheVariants as blocks
 use Rattle.gw_object.specs.declared.parts.Parts.{Parts}
 use Rattle.gw_rules.specs.declared.ways.Who.{Who}
 use Rattle.gw_rules.specs.declared.ways.Who.TheVariants.{Itself, Copies}
 use Rattle.gw_rules.specs.declared.ways.Exit.{Exit}
 use Rattle.gw_rules.specs.Exits.{leads_to, exits_with}
-use Rattle.gw_operands.specs.Sources.{kind_at, evaluation_operands}
+use Rattle.gw_rules.specs.Sources.{kind_at, evaluation_operands}
 use Rattle.gw_rules.specs.Kinds.{is_generate}
-use Rattle.gw_operands.specs.Code.{parameters_asked}
+use Rattle.gw_rules.specs.Code.{parameters_asked}
 use Rattle.gw_rules.specs.declared.edges.Target.{Target}
 use Rattle.gw_rules.specs.declared.edges.Target.TheVariants as targets
 use Rattle.gw_rules.specs.declared.edges.FlowEdge.{FlowEdge as EdgeOf}
@@ -25,8 +25,7 @@ use Rattle.gw_rules.specs.declared.set_parameters.Parameter.{Parameter}
 use Rattle.gw_rules.specs.FlowCodes as codes
 use Rattle.gw_rules.specs.Entries.{in_order}
 use Rattle.gw_rules.specs.Seen.{kind_seen}
-use Rattle.gw_rules.specs.Rows.{Row, kind_of, is_number, is_return, return_blocks, owns, units_of, is_empty, nothing_known, with_parameter}
-use Rattle.gw_rules.specs.Rows.{with_facility, without_facility, with_units, parameters_alone}
+use Rattle.gw_rules.specs.Rows.{Row, kind_of, is_number, is_return, return_blocks, owns, units_of, is_empty, nothing_known, with_parameter, with_facility, without_facility, with_units, parameters_alone}
 
 -- a state table: what is known of a transaction that is about to go to a target, if it says that one may go there
 abbrev pub Table : Type 0

@@ -5,17 +5,16 @@ use Rattle.gw_object.specs.Reading.{out_of_memory}
 use Rattle.gw_object.specs.declared.fault.Fault.{Fault}
 use Rattle.gw_object.specs.declared.fault.Place.{Place}
 use Rattle.gw_object.specs.declared.fault.Place.TheVariants as places
-use Rattle.gw_blocks.specs.declared.parts.Block.{Block}
+use Rattle.gw_object.specs.declared.blocks.Block.{Block}
 use Rattle.gw_object.specs.declared.parts.Entity.{Entity}
 use Rattle.gw_object.specs.declared.parts.Parts.{Parts}
 use Rattle.gw_rules.specs.Checks.{Check, check, first_broken, checks_by_number, Finds}
 use Rattle.gw_rules.specs.Kinds.{for_chain}
 use Rattle.gw_rules.specs.declared.edges.Target.{Target}
 use Rattle.gw_rules.specs.declared.edges.Target.TheVariants as targets
-use Rattle.gw_rules.specs.Blocks.{FlowEdge}
+use Rattle.gw_rules.specs.Blocks.{FlowEdge, Table, Rule, rules, rules_without_row, edges}
 use Rattle.gw_rules.specs.Rows.{Row, fits}
 use Rattle.gw_rules.specs.Seen.{row_meaning}
-use Rattle.gw_rules.specs.Blocks.{Table, Rule, rules, rules_without_row, edges}
 
 -- TABLES
 

@@ -1,7 +1,6 @@
 -- The codes of refusals that checking flow answers.
 use Rattle.std.specs.Prelude.{ℕ}
-use Rattle.gw_rules.specs.declared.flow_codes.TheConstants.{UNSET_PARAM, ALREADY_OWNED, NOT_OWNER, TOO_FEW_UNITS, OWNS_AT_END, EDGE_STATE}
-use Rattle.gw_rules.specs.declared.flow_codes.TheConstants.{CHAIN_STATE, PARAM_KIND, OVER_CAPACITY}
+use Rattle.gw_rules.specs.declared.flow_codes.TheConstants.{UNSET_PARAM, ALREADY_OWNED, NOT_OWNER, TOO_FEW_UNITS, OWNS_AT_END, EDGE_STATE, CHAIN_STATE, PARAM_KIND, OVER_CAPACITY}
 
 -- a block would read a parameter of a transaction that isn't sure to be set
 abbrev pub unset_param : ℕ

@@ -2,11 +2,11 @@
 use Rattle.std.specs.Prelude.{◌≡◌, ◌↔◌, ℕ, ◌<◌, List, length, Some, IfSome, IsTrue, false, slice_get, option_to_list}
 use Rattle.std.specs.List.{All}
 use Rattle.std.specs.Option.{IsSome, IsSomeAnd}
-use Rattle.gw_code.specs.declared.parts.Instruction.{Instruction}
-use Rattle.gw_code.specs.declared.parts.Procedure.{Procedure}
+use Rattle.gw_object.specs.declared.code.Instruction.{Instruction}
+use Rattle.gw_object.specs.declared.code.Procedure.{Procedure}
 use Rattle.gw_object.specs.declared.parts.Entity.{Entity}
-use Rattle.gw_blocks.specs.declared.parts.Block.{Block}
-use Rattle.gw_blocks.specs.declared.parts.Operand.{Operand}
+use Rattle.gw_object.specs.declared.blocks.Block.{Block}
+use Rattle.gw_object.specs.declared.blocks.Operand.{Operand}
 use Rattle.gw_object.specs.declared.parts.TableState.{TableState}
 use Rattle.gw_object.specs.declared.parts.ReturnRow.{ReturnRow}
 use Rattle.gw_object.specs.declared.parts.Parts.{Parts}
@@ -15,9 +15,8 @@ use Rattle.gw_rules.specs.declared.entities.Named.{Named}
 use Rattle.gw_rules.specs.declared.ways.Exit.{Exit}
 use Rattle.gw_rules.specs.Exits.{leads_to, exits, other_way}
 use Rattle.gw_rules.specs.Procedures.{entity_in, procedure_in, block_in, draws_nothing, has_good_numbers}
-use Rattle.gw_operands.specs.Sources.{kind_at, operand_of, procedure_named}
-use Rattle.gw_rules.specs.Kinds.{serves_as, entity_of, block_of, named_entities, named_procedures, has_plain_argument, has_plain_half}
-use Rattle.gw_rules.specs.Kinds.{entities_of_row, return_rows_of, block_at, named_blocks, is_generate, is_call_at, has_good_constants, chain_row}
+use Rattle.gw_rules.specs.Sources.{kind_at, operand_of, procedure_named}
+use Rattle.gw_rules.specs.Kinds.{serves_as, entity_of, block_of, named_entities, named_procedures, has_plain_argument, has_plain_half, entities_of_row, return_rows_of, block_at, named_blocks, is_generate, is_call_at, has_good_constants, chain_row}
 use Rattle.gw_rules.specs.Pass.{KindsPass}
 
 -- an entity that is named is there, and is what it is needed as

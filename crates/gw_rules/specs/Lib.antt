@@ -1,3 +1,13 @@
+-- OPERANDS
+pub mod Asking
+pub mod Code
+pub mod Environment
+pub mod Meaning
+pub mod Outcome
+pub mod Results
+pub mod Sources
+pub mod Values
+-- WHAT IS CHECKED
 pub mod Checks
 pub mod KindsCodes
 pub mod Exits

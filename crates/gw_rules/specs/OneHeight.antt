@@ -2,10 +2,10 @@
 use Rattle.std.specs.Prelude.{◌≡◌, ◌↔◌, ℕ, ◌<◌, ◌≤◌, List, length, slice_get, Some, IsTrue, All}
 use Rattle.std.specs.List.{list_all}
 use Rattle.gw_num.specs.Table.{at}
-use Rattle.gw_code.specs.declared.parts.Instruction.{Instruction}
-use Rattle.gw_code.specs.declared.parts.Procedure.{Procedure}
+use Rattle.gw_object.specs.declared.code.Instruction.{Instruction}
+use Rattle.gw_object.specs.declared.code.Procedure.{Procedure}
 use Rattle.gw_object.specs.declared.parts.Parts.{Parts}
-use Rattle.gw_operands.specs.Code.{procedure_at, most_values, takes, targets, leads_well, called_in, calls_lower, asks_for, is_among, costs_of}
+use Rattle.gw_rules.specs.Code.{procedure_at, most_values, takes, targets, leads_well, called_in, calls_lower, asks_for, is_among, costs_of}
 use Rattle.gw_rules.specs.PlusChecks.{PlusPasses, height_after, greatest_cost}
 
 -- each rule holds at the instruction k of the procedure n, where the stack has these heights before instructions

@@ -2,14 +2,14 @@
 use Rattle.std.specs.Prelude.{◌≡◌, ◌<◌, ◌≤◌, ℕ, ◌+◌, ◌-◌, List, [], ◌∷◌, ◌++◌, length, Option, Some, None, Bool, true, false, ◌==◌, ◌&&◌, nat_le}
 use Rattle.std.specs.List.{list_all}
 use Rattle.gw_num.specs.Table.{at, put}
-use Rattle.gw_code.specs.declared.parts.Instruction.{Instruction}
-use Rattle.gw_code.specs.declared.parts.Procedure.{Procedure}
+use Rattle.gw_object.specs.declared.code.Instruction.{Instruction}
+use Rattle.gw_object.specs.declared.code.Procedure.{Procedure}
 use Rattle.gw_object.specs.declared.fault.Place.TheVariants as places
 use Rattle.gw_object.specs.declared.parts.Entity.{Entity}
 use Rattle.gw_object.specs.declared.parts.Parts.{Parts}
 use Rattle.gw_rules.specs.Checks.{Check, check, first_broken}
 use Rattle.gw_rules.specs.PlusCodes as codes
-use Rattle.gw_operands.specs.Code.{most_values, takes, leaves, targets, leads_well, called_in, calls_lower, asks_for, is_among, cost_of_code}
+use Rattle.gw_rules.specs.Code.{most_values, takes, leaves, targets, leads_well, called_in, calls_lower, asks_for, is_among, cost_of_code}
 
 -- HEIGHTS
 

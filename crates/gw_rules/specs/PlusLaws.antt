@@ -1,18 +1,18 @@
 -- What is proved of PLUS code, and of the code that passes its checks.
 use Rattle.std.specs.Prelude.{◌≡◌, ℕ, ◌≤◌, List, [], length, All, Some, None, true, Result, ℤ}
 use Rattle.gw_num.specs.Table.{at}
-use Rattle.gw_code.specs.Grammar.{ProcedureFits}
-use Rattle.gw_code.specs.declared.parts.Procedure.{Procedure}
+use Rattle.gw_object.specs.CodeGrammar.{ProcedureFits}
+use Rattle.gw_object.specs.declared.code.Procedure.{Procedure}
 use Rattle.gw_object.specs.declared.parts.Parts.{Parts}
 use Rattle.gw_object.specs.Grammar.{HasSpelling}
 use Rattle.gw_rules.specs.KindsLaws.{EntityHolds, ProcedureHolds}
 use Rattle.gw_rules.specs.Pass.{KindsPass}
-use Rattle.gw_operands.specs.declared.ends.PlusEnd.{PlusEnd}
-use Rattle.gw_operands.specs.Environment.{Environment, ReadTheSame}
-use Rattle.gw_operands.specs.Code.{procedure_at, is_among, costs_of}
+use Rattle.gw_rules.specs.declared.ends.PlusEnd.{PlusEnd}
+use Rattle.gw_rules.specs.Environment.{Environment, ReadTheSame}
+use Rattle.gw_rules.specs.Code.{procedure_at, is_among, costs_of}
 use Rattle.gw_rules.specs.PlusChecks.{PlusPasses}
-use Rattle.gw_operands.specs.Meaning.{Frame, Derives, Evaluates, opening_frame}
-use Rattle.gw_operands.specs.Outcome.{answer_within, outcome_of}
+use Rattle.gw_rules.specs.Meaning.{Frame, Derives, Evaluates, opening_frame}
+use Rattle.gw_rules.specs.Outcome.{answer_within, outcome_of}
 
 -- these parameters are set
 abbrev pub HasSet : Environment → List ℕ → Type 0

@@ -1,15 +1,15 @@
 -- Kinds of PLUS code: what every number in a procedure names.
 use Rattle.std.specs.Prelude.{ℕ, List, [], ◌∷◌, Option, Some, None, Bool, true, not, nat_lt, nat_le, ◌&&◌}
-use Rattle.gw_code.specs.declared.parts.Instruction.{Instruction}
-use Rattle.gw_code.specs.declared.parts.Instruction.TheVariants.{Get, Set, Value, Back, Call}
-use Rattle.gw_code.specs.declared.parts.Procedure.{Procedure}
+use Rattle.gw_object.specs.declared.code.Instruction.{Instruction}
+use Rattle.gw_object.specs.declared.code.Instruction.TheVariants.{Get, Set, Value, Back, Call}
+use Rattle.gw_object.specs.declared.code.Procedure.{Procedure}
 use Rattle.gw_object.specs.declared.fault.Place.TheVariants as places
 use Rattle.gw_object.specs.declared.parts.Parts.{Parts}
 use Rattle.gw_rules.specs.declared.entities.Named.{Named}
 use Rattle.gw_rules.specs.Checks.{Check, check, checks_by_number}
 use Rattle.gw_rules.specs.KindsCodes as codes
 use Rattle.gw_rules.specs.Kinds.{is_none_or, entity_of, block_of, is_no_other_kind, is_there, is_procedure, is_block}
-use Rattle.gw_operands.specs.Sources.{argument_in, as_operand, is_drawn}
+use Rattle.gw_rules.specs.Sources.{argument_in, as_operand, is_drawn}
 use Rattle.gw_object.specs.declared.parts.Entity.{Entity}
 
 -- the entity that an instruction names, if it does

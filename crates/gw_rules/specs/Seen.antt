@@ -1,6 +1,6 @@
 -- The states that objects and calls carry, seen as abstract states.
 use Rattle.std.specs.Prelude.{ℕ, ◌<◌, List, [], ◌∷◌, map, Option, option_map, All}
-use Rattle.gw_blocks.specs.declared.parts.Units.{Units}
+use Rattle.gw_object.specs.declared.blocks.Units.{Units}
 use Rattle.gw_object.specs.declared.parts.TableKind.{TableKind}
 use Rattle.gw_object.specs.declared.parts.TableKind.TheVariants.{Num as TableNum, Ret as TableRet}
 use Rattle.gw_object.specs.declared.parts.TableParameter.{TableParameter}

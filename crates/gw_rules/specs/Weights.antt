@@ -4,13 +4,13 @@ use Rattle.std.specs.Prelude.{Bool, true, false, not, ◌||◌, ◌&&◌, ◌==�
 use Rattle.std.specs.Borrow.{Bor}
 use Rattle.std.specs.List.{flat_map}
 use Rattle.std.specs.Option.{option_map, option_map_or}
-use Rattle.gw_blocks.specs.declared.parts.Generate.{Generate}
-use Rattle.gw_blocks.specs.declared.parts.Block.{Block}
-use Rattle.gw_blocks.specs.declared.parts.Block.TheVariants as blocks
-use Rattle.gw_blocks.specs.declared.parts.Operand.{Operand}
-use Rattle.gw_blocks.specs.declared.parts.Operand.TheVariants.{Constant}
-use Rattle.gw_blocks.specs.declared.parts.Mode.{Mode}
-use Rattle.gw_blocks.specs.declared.parts.Mode.TheVariants.{Set}
+use Rattle.gw_object.specs.declared.blocks.Generate.{Generate}
+use Rattle.gw_object.specs.declared.blocks.Block.{Block}
+use Rattle.gw_object.specs.declared.blocks.Block.TheVariants as blocks
+use Rattle.gw_object.specs.declared.blocks.Operand.{Operand}
+use Rattle.gw_object.specs.declared.blocks.Operand.TheVariants.{Constant}
+use Rattle.gw_object.specs.declared.blocks.Mode.{Mode}
+use Rattle.gw_object.specs.declared.blocks.Mode.TheVariants.{Set}
 use Rattle.gw_rules.specs.declared.slopes.Treatment.{Treatment}
 use Rattle.gw_rules.specs.declared.slopes.Treatment.TheVariants.{Keeps, SetsTo, Lowers, RunsOut, Changes}
 use Rattle.gw_rules.specs.declared.ways.Way.{Way}

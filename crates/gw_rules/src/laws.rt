@@ -1,8 +1,7 @@
 //! The laws of what the verifier checks, as functions with nothing to do, whose clauses are the laws.
 
 ghost use Rattle.gw_rules.specs.KindsLaws.{KindsPassAtEachPlace};
-ghost use Rattle.gw_rules.specs.PlusLaws.{OneOutcome, AnswersAreDerived, DerivedIsAnswered};
-ghost use Rattle.gw_rules.specs.PlusLaws.{OutcomesDependOnWhatIsKept, HasOutcome, CostBounds, OutcomesAreEvaluated};
+ghost use Rattle.gw_rules.specs.PlusLaws.{AnswersAreDerived, CostBounds, DerivedIsAnswered, HasOutcome, OneOutcome, OutcomesAreEvaluated, OutcomesDependOnWhatIsKept};
 ghost use Rattle.gw_rules.specs.OneHeight.{PlusPassesByHeights};
 ghost use Rattle.gw_rules.specs.FlowLaws.{FlowPassesAtEachBlock, FitsIsDecided, FitsItself, FitsOn, FittingStatesPass};
 ghost use Rattle.gw_rules.specs.WeightsLaws.{WeightsPassWhereWeighted};

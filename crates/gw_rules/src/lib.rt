@@ -1,15 +1,20 @@
-//! The rules of the verifier, as definitions, laws and types alone: what it checks of an object, what holds of what passes,
-//! and the type of an object that was accepted. The tests stand in the crates above.
+//! Operands, and the rules of the verifier: what is evaluated for an operand, which parameters it asks for, and what its PLUS
+//! code does (docs/plus-code.md); what is checked of an object, what holds of what passes, and the type of an object that
+//! was accepted. Definitions, laws and types alone but for what operands are read by: the tests stand in the crates above.
 #![tactic(auto)]
 
+mod asking;
 mod chain_rows;
 mod checks;
 mod edges;
+mod ends;
 mod entities;
+mod evaluation;
 pub mod flow_codes;
 pub mod kinds_codes;
 pub mod laws;
 pub mod plus_codes;
+mod results;
 mod set_parameters;
 mod slopes;
 mod verified;
@@ -17,10 +22,17 @@ mod ways;
 mod weights;
 pub mod weights_codes;
 
+pub use asking::{Asked, asks_for, parameters_asked, procedure_at};
 pub use chain_rows::{chain_place, chain_row};
 pub use checks::check;
 pub use edges::{FlowEdge, Target};
+pub use ends::PlusEnd;
 pub use entities::{EntityKind, Named, needs};
+pub use evaluation::{
+    Operands, argument_in, as_operand, evaluation_operands, is_drawn, operand_at, operand_of,
+    source_of, values,
+};
+pub use results::operand_value;
 pub use set_parameters::{Parameter, ParameterKind};
 pub use slopes::{Treatment, above, changed_parameter, slope_at, treats};
 pub use verified::Verified;

@@ -4,8 +4,7 @@ ghost use Rattle.std.specs.Prelude.{◌≡◌};
 ghost use Rattle.gw_rules.specs.Weights as model;
 
 use crate::ways::Way;
-use gw_blocks::{Assign, Block, Mode, Operand};
-use gw_object::Slope;
+use gw_object::{Assign, Block, Mode, Operand, Slope};
 
 /// What a block does to a parameter on a way of it (ours: docs/weights.md).
 #[derive(Clone, Copy, PartialEq, Eq)]

@@ -6,7 +6,7 @@ ghost use Rattle.gw_rules.specs.Blocks.{is_used as is_used_of};
 ghost use Rattle.gw_rules.specs.declared.ways.Way.TheVariants.{Falls};
 
 use arrayvec::ArrayVec;
-use gw_blocks::{Block, Operand, Spread};
+use gw_object::{Block, Operand, Spread};
 
 /// The way on from a block.
 #[derive(Clone, Copy, PartialEq, Eq)]

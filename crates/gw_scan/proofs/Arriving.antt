@@ -1,7 +1,7 @@
 -- A GENERATE that owes an arrival: what it comes to by the moment that was drawn for that.
 use Rattle.std.proofs.Common.{◌≡◌, ℕ, ◌+◌, ℤ, List, true, refl}
-use Rattle.gw_blocks.specs.declared.parts.Generate.{Generate}
-use Rattle.gw_blocks.specs.declared.parts.Block.TheVariants as blocks
+use Rattle.gw_object.specs.declared.blocks.Generate.{Generate}
+use Rattle.gw_object.specs.declared.blocks.Block.TheVariants as blocks
 use Rattle.gw_num.specs.Table.{at}
 use Rattle.gw_object.specs.declared.parts.Parts.{Parts}
 use Rattle.gw_transactions.specs.declared.Transaction.{Transaction}

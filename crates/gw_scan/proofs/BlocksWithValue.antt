@@ -1,15 +1,15 @@
 -- Blocks with values: what a block comes to whose operand values are known.
 use Rattle.std.proofs.Common.{◌≡◌, ℕ, ◌+◌, ℤ, List, Option, Some, refl, ap, ◌∙◌}
-use Rattle.gw_blocks.specs.declared.parts.Operand.{Operand}
-use Rattle.gw_blocks.specs.declared.parts.Spread.{Spread}
-use Rattle.gw_blocks.specs.declared.parts.Assign.{Assign}
-use Rattle.gw_blocks.specs.declared.parts.Save.{Save}
-use Rattle.gw_blocks.specs.declared.parts.Priority.{Priority}
-use Rattle.gw_blocks.specs.declared.parts.Plus.{Plus}
-use Rattle.gw_blocks.specs.declared.parts.Block.TheVariants as blocks
+use Rattle.gw_object.specs.declared.blocks.Operand.{Operand}
+use Rattle.gw_object.specs.declared.blocks.Spread.{Spread}
+use Rattle.gw_object.specs.declared.blocks.Assign.{Assign}
+use Rattle.gw_object.specs.declared.blocks.Save.{Save}
+use Rattle.gw_object.specs.declared.blocks.Priority.{Priority}
+use Rattle.gw_object.specs.declared.blocks.Plus.{Plus}
+use Rattle.gw_object.specs.declared.blocks.Block.TheVariants as blocks
 use Rattle.gw_object.specs.declared.parts.Parts.{Parts}
-use Rattle.gw_operands.specs.Sources.{operand_at}
-use Rattle.gw_operands.specs.Values.{Evaluation, Value, Fails, Unset, ◌>>=◌ as ◌then◌, operand_value, one_operand, drawn_time, single_value}
+use Rattle.gw_rules.specs.Sources.{operand_at}
+use Rattle.gw_rules.specs.Values.{Evaluation, Value, Fails, Unset, ◌>>=◌ as ◌then◌, operand_value, one_operand, drawn_time, single_value}
 use Rattle.gw_transactions.specs.declared.Transaction.{Transaction}
 use Rattle.gw_step.specs.Outcome.{Outcome, Gives, EndsBy, HasNoCase, ◌>>=◌, evaluation_outcome}
 use Rattle.gw_step.specs.State.{State, with_streams}

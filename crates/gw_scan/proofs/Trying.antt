@@ -1,12 +1,12 @@
 -- What the tries of two next blocks come to.
 use Rattle.std.proofs.Common.{◌≡◌, ℕ, ℤ, List, Some, Bool, true, false, if◌then◌else◌, refl, sym, ap, ◌∙◌}
 use Rattle.std.specs.Prelude.{Result, Ok, Err}
-use Rattle.gw_blocks.specs.declared.parts.Block.{Block}
-use Rattle.gw_blocks.specs.declared.parts.Test.{Test}
-use Rattle.gw_blocks.specs.declared.parts.Block.TheVariants as blocks
+use Rattle.gw_object.specs.declared.blocks.Block.{Block}
+use Rattle.gw_object.specs.declared.blocks.Test.{Test}
+use Rattle.gw_object.specs.declared.blocks.Block.TheVariants as blocks
 use Rattle.gw_object.specs.declared.parts.Parts.{Parts}
-use Rattle.gw_operands.specs.Values.{operands}
-use Rattle.gw_operands.specs.declared.ends.PlusEnd.{PlusEnd}
+use Rattle.gw_rules.specs.Values.{operands}
+use Rattle.gw_rules.specs.declared.ends.PlusEnd.{PlusEnd}
 use Rattle.gw_rules.specs.Kinds.{block_at}
 use Rattle.gw_transactions.specs.declared.Transaction.{Transaction}
 use Rattle.gw_machine.specs.Configuration.{Configuration}

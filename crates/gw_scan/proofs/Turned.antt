@@ -1,8 +1,8 @@
 -- A machine whose active transaction has turned to one of two next blocks, and back.
 use Rattle.std.proofs.Common.{◌≡◌, ℕ, ◌≤◌, List, length, Option, Some, None, Bool, true, false, if◌then◌else◌, refl, sym, ap, ◌∙◌, subst, arith}
 use Rattle.std.specs.Prelude.{pos, ◌<ℤ◌, IsSomeAnd, Result, Ok, Err}
-use Rattle.gw_blocks.specs.declared.parts.Block.{Block}
-use Rattle.gw_operands.specs.declared.ends.PlusEnd.{PlusEnd}
+use Rattle.gw_object.specs.declared.blocks.Block.{Block}
+use Rattle.gw_rules.specs.declared.ends.PlusEnd.{PlusEnd}
 use Rattle.gw_rules.specs.Kinds.{block_at}
 use Rattle.gw_transactions.specs.Transactions.{Holds, attributes_at}
 use Rattle.gw_machine.specs.Coherence.{IsSteady}

@@ -1,7 +1,7 @@
 -- A visit that may be made meets its next block, which is there.
 use Rattle.std.proofs.Common.{Bor, ◌≡◌, ◌∙◌, Option, Some, None, option_map, refl, sym, ap, subst, arith}
 use Rattle.std.specs.Prelude.{IsSome, IsSomeAnd, option_copied, Result, Ok, Err}
-use Rattle.gw_blocks.specs.declared.parts.Block.{Block}
+use Rattle.gw_object.specs.declared.blocks.Block.{Block}
 use Rattle.gw_members.specs.declared.tx.Tx.{Tx}
 use Rattle.gw_rules.specs.Kinds.{block_at}
 use Rattle.gw_machine.specs.Configuration.{Configuration}

@@ -1,12 +1,12 @@
 -- Decoded blocks: of which blocks they are made.
 use Rattle.std.specs.Prelude.{pos}
-use Rattle.gw_blocks.specs.declared.parts.Block.{Block}
-use Rattle.gw_blocks.specs.declared.parts.Block.TheVariants as blocks
-use Rattle.gw_blocks.specs.declared.parts.Generate.{Generate}
-use Rattle.gw_blocks.specs.declared.parts.Assign.{Assign}
-use Rattle.gw_blocks.specs.declared.parts.Save.{Save}
-use Rattle.gw_blocks.specs.declared.parts.Priority.{Priority}
-use Rattle.gw_blocks.specs.declared.parts.Operand.TheVariants.{Constant}
+use Rattle.gw_object.specs.declared.blocks.Block.{Block}
+use Rattle.gw_object.specs.declared.blocks.Block.TheVariants as blocks
+use Rattle.gw_object.specs.declared.blocks.Generate.{Generate}
+use Rattle.gw_object.specs.declared.blocks.Assign.{Assign}
+use Rattle.gw_object.specs.declared.blocks.Save.{Save}
+use Rattle.gw_object.specs.declared.blocks.Priority.{Priority}
+use Rattle.gw_object.specs.declared.blocks.Operand.TheVariants.{Constant}
 use Rattle.gw_machine.specs.Spans.{spread_of}
 use Rattle.gw_scan.specs.declared.decoding.Arrivals.{Arrivals}
 use Rattle.gw_scan.specs.declared.decoding.AssignConstant.{AssignConstant}

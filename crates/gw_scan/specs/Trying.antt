@@ -2,7 +2,7 @@
 use Rattle.std.specs.Prelude.{◌≡◌, ◌≢◌, ℕ, List, Bool, true, false, Option, Some, None, Result, Ok, Err, if◌then◌else◌}
 use Rattle.std.specs.Borrow.{Bor}
 use Rattle.std.specs.Option.{option_map_or}
-use Rattle.gw_blocks.specs.declared.parts.Block.{Block}
+use Rattle.gw_object.specs.declared.blocks.Block.{Block}
 use Rattle.gw_machine.specs.Configuration.{Configuration}
 use Rattle.gw_machine.specs.Leaving.{Becomes, Stays}
 use Rattle.gw_machine.specs.View.{state_of}
@@ -10,8 +10,8 @@ use Rattle.gw_machine.specs.declared.machine.Made.{Made}
 use Rattle.gw_machine.specs.declared.machine.Made.TheVariants.{Step, Last, Ends}
 use Rattle.gw_members.specs.declared.tx.Tx.{Tx}
 use Rattle.gw_object.specs.declared.parts.Parts.{Parts}
-use Rattle.gw_operands.specs.Values.{operands}
-use Rattle.gw_operands.specs.declared.ends.PlusEnd.{PlusEnd}
+use Rattle.gw_rules.specs.Values.{operands}
+use Rattle.gw_rules.specs.declared.ends.PlusEnd.{PlusEnd}
 use Rattle.gw_scan.specs.Makes.{MakesFrom}
 use Rattle.gw_scan.specs.Visiting.{IsVisit, MayMake, meets_its_next}
 use Rattle.gw_scan.specs.declared.both.Before.{Before}

@@ -1,12 +1,12 @@
 -- The visit of a machine's active transaction to its next block: what the block may rely on, and what it makes.
 use Rattle.std.specs.Prelude.{◌≡◌, ℕ, ℤ, ◌+◌, ◌≤◌, List, Option, Some, Bool, not, ◌&&◌, is_none, if◌then◌else◌, Result}
 use Rattle.gw_assemblies.specs.declared.assemblies.Assembly.{Assembly as HeldAssembly}
-use Rattle.gw_blocks.specs.declared.parts.Block.{Block}
-use Rattle.gw_blocks.specs.declared.parts.Operand.{Operand}
-use Rattle.gw_blocks.specs.declared.parts.Unlink.{Unlink}
-use Rattle.gw_operands.specs.Environment.{Environment}
-use Rattle.gw_operands.specs.Values.{operand_value, with_first}
-use Rattle.gw_operands.specs.declared.ends.PlusEnd.{PlusEnd}
+use Rattle.gw_object.specs.declared.blocks.Block.{Block}
+use Rattle.gw_object.specs.declared.blocks.Operand.{Operand}
+use Rattle.gw_object.specs.declared.blocks.Unlink.{Unlink}
+use Rattle.gw_rules.specs.Environment.{Environment}
+use Rattle.gw_rules.specs.Values.{operand_value, with_first}
+use Rattle.gw_rules.specs.declared.ends.PlusEnd.{PlusEnd}
 use Rattle.gw_machine.specs.Coherence.{IsActive, IsOf, IsPassing, IsRunning}
 use Rattle.gw_machine.specs.Configuration.{Configuration}
 use Rattle.gw_machine.specs.Evaluating.{value_outcome}

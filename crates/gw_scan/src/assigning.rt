@@ -12,10 +12,10 @@ ghost use Rattle.gw_scan.specs.Visiting.{Acts, IsVisit, MayFall, Meets, after_as
 
 use crate::decoding::{AssignConstant, SaveConstant};
 use crate::visit::Visit;
-use gw_blocks::{Assign, Block, Logic, Loop, Mode, Plus, Save};
 use gw_machine::{Machine, Made, end_by, end_by_fault};
 use gw_num::{NumFault, Stream, add, sub};
-use gw_operands::operand_at;
+use gw_object::{Assign, Block, Logic, Loop, Mode, Plus, Save};
+use gw_rules::operand_at;
 
 /// A value put where an old one is: it takes its place, or is added to it, or subtracted from it.
 fn put_by(mode: Mode, old: i64, value: i64) -> Result<i64, NumFault>

@@ -15,10 +15,10 @@ ghost use Rattle.gw_scan.specs.Visiting.{Acts, ActsOnOk, IsEntering, IsVisit, Ma
 
 use crate::decoding::{Arrivals, Decoded, decoded_at};
 use crate::visit::{Visit, blocks_of};
-use gw_blocks::{Block, Both, Fraction, Generate, Operand, Spread, Units};
 use gw_machine::{Machine, Made, Span, active_subject, drawn_thousandths, end_by};
 use gw_members::Memory;
 use gw_num::Stream;
+use gw_object::{Block, Both, Fraction, Generate, Operand, Spread, Units};
 use gw_step::{End, Placement};
 
 /// Where a TRANSFER by fraction, the block of this number, leads to when so many thousandths are drawn.

@@ -13,13 +13,11 @@ ghost use Rattle.gw_scan.specs.Trying.{GoesOn, TellsOfNext, TellsRefusal, TurnsT
 
 use crate::conditions::compares;
 use crate::visit::{Visit, blocks_of};
-use gw_blocks::{Block, Test};
 use gw_machine::{Machine, Made, block_of, end_by};
 use gw_members::{Memory, Tx};
 use gw_num::Stream;
-use gw_object::Parts;
-use gw_operands::PlusEnd;
-use gw_rules::Verified;
+use gw_object::{Block, Parts, Test};
+use gw_rules::{PlusEnd, Verified};
 use gw_step::Placement;
 use gw_transactions::Transaction;
 

@@ -9,10 +9,10 @@ ghost use Rattle.gw_scan.specs.Makes.{MakesOnOk};
 ghost use Rattle.gw_scan.specs.Visiting.{ActsOnOk, IsVisit, MayFall, MayGo, Meets, retries_after, passes_after};
 
 use crate::visit::Visit;
-use gw_blocks::{Block, Comparison, Gate, Test};
 use gw_machine::{Machine, Made, end_by};
 use gw_members::Memory;
 use gw_num::Stream;
+use gw_object::{Block, Comparison, Gate, Test};
 use gw_step::Placement;
 
 /// Whether two values compare so.

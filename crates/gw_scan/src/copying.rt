@@ -11,9 +11,9 @@ ghost use Rattle.gw_scan.specs.Visiting.{ActsOnOk, IsVisit, MayFall, Meets, asse
 
 use crate::visit::Visit;
 use gw_assemblies::Assembly;
-use gw_blocks::{Block, Split};
 use gw_machine::{Machine, Made};
 use gw_members::Memory;
+use gw_object::{Block, Split};
 use gw_step::{Assembling, End, Placement};
 
 /// The block to which the copies go that a SPLIT, the block of this number, makes.

@@ -5,12 +5,12 @@ ghost use Rattle.gw_machine.specs.Spans.{spread_of};
 ghost use Rattle.gw_rules.specs.Kinds.{block_at};
 ghost use Rattle.gw_scan.specs.Origins.{origin};
 
-use gw_blocks::{
+use gw_machine::Span;
+use gw_members::Memory;
+use gw_object::{
     Assign, Block, Both, Call, Fraction, Gate, Generate, Link, Logic, Loop, Mode, Operand, Plus,
     Priority, Save, Split, Spread, Test, Units, Unlink,
 };
-use gw_machine::Span;
-use gw_members::Memory;
 use std::alloc::Global;
 
 /// The operands of a GENERATE whose interval is of constants.

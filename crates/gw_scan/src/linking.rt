@@ -8,9 +8,9 @@ ghost use Rattle.gw_machine.specs.Leaving.{BecomesOnOk};
 ghost use Rattle.gw_scan.specs.Visiting.{ActsOnOk, IsVisit, Meets, falls_and_unlinks};
 
 use crate::visit::Visit;
-use gw_blocks::{Block, Link, Unlink};
 use gw_machine::{Machine, Made};
 use gw_members::Memory;
+use gw_object::{Block, Link, Unlink};
 use gw_step::Placement;
 
 /// How many members an UNLINK takes from its user chain: as many as it asks for at most, or all.

@@ -8,9 +8,9 @@ ghost use Rattle.gw_scan.specs.Visiting.{ActsOnOk, Meets};
 
 use crate::decoding::PriorityConstant;
 use crate::visit::Visit;
-use gw_blocks::{Block, Priority};
 use gw_machine::{Machine, Made, end_by};
 use gw_members::Memory;
+use gw_object::{Block, Priority};
 use gw_step::{End, Placement};
 
 /// A value as a priority, if it is one: a number of 32 bits.

@@ -8,10 +8,9 @@ ghost use Rattle.gw_scan.specs.Origins.{origin};
 ghost use Rattle.gw_scan.specs.Making as model;
 
 use crate::decoding::{Decoded, decode_all};
-use gw_blocks::Block;
 use gw_members::Memory;
 use gw_num::Stream;
-use gw_object::{GREATEST_SEED, MOST_SEEDS, Parts};
+use gw_object::{Block, GREATEST_SEED, MOST_SEEDS, Parts};
 use gw_rules::Verified;
 use std::alloc::Global;
 use std::marker::Model;

@@ -6,8 +6,8 @@ ghost use Rattle.gw_step.specs.Blocks as model;
 ghost use Rattle.gw_scan.specs.Visiting.{Acts, Meets};
 
 use crate::visit::Visit;
-use gw_blocks::{Block, Call};
 use gw_machine::{Machine, Made};
+use gw_object::{Block, Call};
 
 /// The number of the block after the one whose number a value is.
 fn block_after(value: i64) -> u16

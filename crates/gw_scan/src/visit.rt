@@ -8,12 +8,11 @@ ghost use Rattle.gw_machine.specs.Coherence.{CanBePlaced, CanRest, IsOf};
 ghost use Rattle.gw_machine.specs.Leaving.{BecomesBy};
 ghost use Rattle.gw_scan.specs.Visiting.{IsVisit, PassesOnOk, environment_in, with_priority, EvaluatesFor, PassesUndrawn, PassesUntil, PassesWithin};
 
-use gw_blocks::{Block, Operand};
 use gw_machine::{Machine, active_subject};
 use gw_members::{Memory, Tx};
 use gw_num::Stream;
-use gw_operands::PlusEnd;
-use gw_rules::Verified;
+use gw_object::{Block, Operand};
+use gw_rules::{PlusEnd, Verified};
 use gw_step::Placement;
 use gw_transactions::Transaction;
 

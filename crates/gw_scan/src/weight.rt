@@ -12,10 +12,9 @@ ghost use Rattle.gw_machine.specs.Coherence.{IsHeld};
 ghost use Rattle.gw_scan.specs.Weighing.{greatest_value, heaviest, later_weight, later_weights, owed_weight, weight_with, owed_weight_after};
 
 use crate::both::two_next;
-use gw_blocks::{Block, Generate};
 use gw_machine::{Machine, block_of};
 use gw_members::{Event, Tx};
-use gw_object::{Parts, Slope};
+use gw_object::{Block, Generate, Parts, Slope};
 use gw_rules::{above, chain_weight, slope_at, takes_time, weight_at};
 use gw_transactions::{Parameters, Transaction, Transactions};
 

@@ -5,20 +5,19 @@ use Rattle.std.specs.Prelude.{All, IsSomeAnd, IfSome, is_some}
 use Rattle.std.specs.List.{list_all}
 use Rattle.std.proofs.lemmas.Bool.{and_parts, and_from, eqb-true, eq-eqb, false≢true}
 use Rattle.std.proofs.lemmas.List.Elements.{All-nil, All-cons, All-head, All-tail, All-append}
-use Rattle.gw_blocks.specs.declared.parts.Assign.{Assign}
-use Rattle.gw_blocks.specs.declared.parts.Generate.{Generate}
-use Rattle.gw_blocks.specs.declared.parts.Mode.TheVariants.{Set}
-use Rattle.gw_blocks.specs.declared.parts.Block.{Block}
-use Rattle.gw_blocks.specs.declared.parts.Block.TheVariants as blocks
+use Rattle.gw_object.specs.declared.blocks.Assign.{Assign}
+use Rattle.gw_object.specs.declared.blocks.Generate.{Generate}
+use Rattle.gw_object.specs.declared.blocks.Mode.TheVariants.{Set}
+use Rattle.gw_object.specs.declared.blocks.Block.{Block}
+use Rattle.gw_object.specs.declared.blocks.Block.TheVariants as blocks
 use Rattle.gw_object.specs.declared.parts.Parts.{Parts}
 use Rattle.gw_rules.specs.Kinds.{block_at, is_generate}
 use Rattle.gw_rules.specs.declared.edges.Target.{Target}
 use Rattle.gw_rules.specs.declared.edges.Target.TheVariants as targets
-use Rattle.gw_rules.specs.Blocks.{FlowEdge}
+use Rattle.gw_rules.specs.Blocks.{FlowEdge, Table, Rule, rule, replaces, rules, value_rules, own_rules, move, edges_from, members_move, members_edges, chain_edges, edges}
 use Rattle.gw_rules.specs.FlowCodes as codes
 use Rattle.gw_rules.specs.Entries.{lists}
 use Rattle.gw_rules.specs.Rows.{Row, ParamKind, Num, Ret, kind_of, is_return, is_empty, nothing_known, Fits}
-use Rattle.gw_rules.specs.Blocks.{Table, Rule, rule, replaces, rules, value_rules, own_rules, move, edges_from, members_move, members_edges, chain_edges, edges}
 use Rattle.gw_rules.specs.Flow.{FlowPasses}
 use Rattle.gw_rules.specs.FlowLaws.{MayPass, FlowHolds, forbids}
 use Rattle.gw_rules.proofs.EachBlock.{All-front, All-back}

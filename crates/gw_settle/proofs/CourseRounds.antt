@@ -6,17 +6,16 @@ use Rattle.std.specs.Option.{option_flatten, option_map}
 use Rattle.std.proofs.lemmas.Option.{slice_get-map}
 use Rattle.std.proofs.lemmas.List.{map-append}
 use Rattle.std.proofs.lemmas.List.Elements.{All-nil, All-cons, All-head, All-tail, All-append}
-use Rattle.gw_blocks.specs.declared.parts.Block.{Block}
-use Rattle.gw_blocks.specs.declared.parts.Block.TheVariants as blocks
+use Rattle.gw_object.specs.declared.blocks.Block.{Block}
+use Rattle.gw_object.specs.declared.blocks.Block.TheVariants as blocks
 use Rattle.gw_object.specs.declared.parts.Entity.{Entity}
 use Rattle.gw_object.specs.declared.parts.Parts.{Parts}
 use Rattle.gw_rules.specs.Kinds.{block_at, chain_place, is_generate}
 use Rattle.gw_rules.specs.declared.edges.Target.{Target}
 use Rattle.gw_rules.specs.declared.edges.Target.TheVariants as targets
-use Rattle.gw_rules.specs.Blocks.{FlowEdge}
+use Rattle.gw_rules.specs.Blocks.{FlowEdge, Rule, rules, members_move, members_edges, edges}
 use Rattle.gw_rules.specs.FlowCodes as codes
 use Rattle.gw_rules.specs.Rows.{Row, nothing_known}
-use Rattle.gw_rules.specs.Blocks.{Rule, rules, members_move, members_edges, edges}
 use Rattle.gw_settle.specs.Joins.{join_rows, with_state}
 use Rattle.gw_settle.specs.Rounds.{TableRows, as_table, with_change_at, sent_at, sent_to, all_sent, sends_in, visit_block, visited_to}
 use Rattle.gw_settle.specs.Jumps.{units_asked, row_in}

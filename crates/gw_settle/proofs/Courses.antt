@@ -6,28 +6,25 @@ use Rattle.std.specs.List.{list_all, flat_map}
 use Rattle.std.proofs.lemmas.Bool.{cases_eq, eq-eqb, ne_eqb, le-leb, lt-leb, leb-true, and_parts}
 use Rattle.std.proofs.lemmas.List.{map-append}
 use Rattle.std.proofs.lemmas.List.Elements.{All-nil, All-cons, All-head, All-append}
-use Rattle.gw_blocks.specs.declared.parts.Block.{Block}
-use Rattle.gw_blocks.specs.declared.parts.Block.TheVariants as blocks
-use Rattle.gw_blocks.specs.declared.parts.Units.{Units}
+use Rattle.gw_object.specs.declared.blocks.Block.{Block}
+use Rattle.gw_object.specs.declared.blocks.Block.TheVariants as blocks
+use Rattle.gw_object.specs.declared.blocks.Units.{Units}
 use Rattle.gw_object.specs.declared.parts.Parts.{Parts}
 use Rattle.gw_object.specs.Grammar.{AreAscending}
 use Rattle.gw_rules.specs.declared.ways.Who.{Who}
 use Rattle.gw_rules.specs.declared.ways.Who.TheVariants.{Itself, Copies}
 use Rattle.gw_rules.specs.declared.ways.Exit.{Exit}
 use Rattle.gw_rules.specs.Exits.{leads_to, exits_with}
-use Rattle.gw_operands.specs.Sources.{evaluation_operands}
+use Rattle.gw_rules.specs.Sources.{evaluation_operands}
 use Rattle.gw_rules.specs.Kinds.{is_generate}
 use Rattle.gw_rules.specs.declared.set_parameters.Parameter.{Parameter}
 use Rattle.gw_rules.specs.declared.edges.Target.{Target}
 use Rattle.gw_rules.specs.declared.edges.Target.TheVariants as targets
-use Rattle.gw_rules.specs.Blocks.{FlowEdge}
+use Rattle.gw_rules.specs.Blocks.{FlowEdge, Rule, rule, replaces, number_rules, parameters_read, value_rules, own_rules, rules, parameter_set, with_setting, after, returns_read, is_used, known_of, edges_along, edges_from, joins}
 use Rattle.gw_rules.specs.FlowCodes as codes
 use Rattle.gw_rules.specs.Entries.{lists, entry, amount_of, with_entry, with_number, without_number}
-use Rattle.gw_rules.specs.Rows.{Row, ParamKind, is_number, is_return, return_blocks, units_of, nothing_known, is_empty, with_parameter, with_facility}
-use Rattle.gw_rules.specs.Rows.{without_facility, with_units, parameters_alone, KindAscends, IsOrdered}
+use Rattle.gw_rules.specs.Rows.{Row, ParamKind, is_number, is_return, return_blocks, units_of, nothing_known, is_empty, with_parameter, with_facility, without_facility, with_units, parameters_alone, KindAscends, IsOrdered}
 use Rattle.gw_rules.specs.Seen.{kind_seen}
-use Rattle.gw_rules.specs.Blocks.{Rule, rule, replaces, number_rules, parameters_read, value_rules, own_rules, rules, parameter_set, with_setting}
-use Rattle.gw_rules.specs.Blocks.{after, returns_read, is_used, known_of, edges_along, edges_from, joins}
 use Rattle.gw_rules.proofs.Entries.{amount-with_entry}
 use Rattle.gw_flow.proofs.Ordered.{seen_ascends, with_parameter_ordered, with_facility_ordered, without_facility_ordered, with_units_ordered}
 use Rattle.gw_settle.specs.Joins.{keep, joined_kind, join_rows}

@@ -5,15 +5,14 @@ use Rattle.std.specs.Prelude.{IsSome, slice_get, Result, is_err, not}
 use Rattle.std.specs.Option.{option_flatten}
 use Rattle.std.proofs.lemmas.Bool.{false≢true, and_parts}
 use Rattle.std.proofs.lemmas.Option.{slice_get_within}
-use Rattle.gw_blocks.specs.declared.parts.Block.{Block}
+use Rattle.gw_object.specs.declared.blocks.Block.{Block}
 use Rattle.gw_object.specs.declared.fault.Fault.{Fault}
 use Rattle.gw_object.specs.declared.parts.Parts.{Parts}
 use Rattle.gw_rules.specs.Kinds.{block_at, chain_place}
 use Rattle.gw_rules.specs.declared.edges.Target.TheVariants as targets
-use Rattle.gw_rules.specs.Blocks.{FlowEdge}
+use Rattle.gw_rules.specs.Blocks.{FlowEdge, rules}
 use Rattle.gw_rules.specs.Checks.{Finds}
 use Rattle.gw_rules.specs.Flow.{rule_checks}
-use Rattle.gw_rules.specs.Blocks.{rules}
 use Rattle.gw_rules.specs.Rows.{Row}
 use Rattle.gw_settle.specs.declared.draft.Draft.{Draft}
 use Rattle.gw_settle.specs.declared.passing.Like.{Like}

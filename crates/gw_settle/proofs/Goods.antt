@@ -5,8 +5,8 @@ use Rattle.std.specs.Prelude.{All, IfSome, IsSomeAnd, IsTrue, filter, filter_map
 use Rattle.std.specs.Option.{option_map_or}
 use Rattle.std.proofs.lemmas.Bool.{false≢true, leb-true, eqb-true, and_parts}
 use Rattle.std.proofs.lemmas.List.Elements.{All-nil, All-cons, All-head, All-append, All-filter}
-use Rattle.gw_blocks.specs.declared.parts.Block.{Block}
-use Rattle.gw_blocks.specs.declared.parts.Block.TheVariants as blocks
+use Rattle.gw_object.specs.declared.blocks.Block.{Block}
+use Rattle.gw_object.specs.declared.blocks.Block.TheVariants as blocks
 use Rattle.gw_object.specs.declared.parts.Entity.{Entity}
 use Rattle.gw_object.specs.declared.parts.Kind.{Kind}
 use Rattle.gw_object.specs.declared.parts.Kind.TheVariants as kinds
@@ -14,16 +14,14 @@ use Rattle.gw_rules.specs.declared.entities.EntityKind.TheVariants.{Facility, St
 use Rattle.gw_rules.specs.declared.ways.Exit.{Exit}
 use Rattle.gw_rules.specs.declared.ways.Who.{Who}
 use Rattle.gw_rules.specs.declared.ways.Who.TheVariants.{Itself, Copies}
-use Rattle.gw_operands.specs.Sources.{kind_at, values}
+use Rattle.gw_rules.specs.Sources.{kind_at, values}
 use Rattle.gw_rules.specs.Exits.{leads_to, is_call, exits_with}
 use Rattle.gw_rules.specs.Kinds.{block_at, is_call_at, needs, serves_as, entity_of, named_entities, has_good_constants}
 use Rattle.gw_rules.specs.KindsLaws.{IsEntity}
 use Rattle.gw_rules.specs.declared.set_parameters.Parameter.{Parameter}
-use Rattle.gw_rules.specs.Blocks.{FlowEdge}
+use Rattle.gw_rules.specs.Blocks.{FlowEdge, Table, number_in, parameter_set, with_setting, after, returns_read, move, is_used, known_of, edge_along, edges_along, edges_from, join, members_move, members_edges, chain_edges}
 use Rattle.gw_rules.specs.declared.edges.Target.TheVariants as targets
 use Rattle.gw_rules.specs.Rows.{Row, ParamKind, units_of, nonzero, with_units, parameters_alone}
-use Rattle.gw_rules.specs.Blocks.{Table, number_in, parameter_set, with_setting, after, returns_read, move, is_used, known_of, edge_along}
-use Rattle.gw_rules.specs.Blocks.{edges_along, edges_from, join, members_move, members_edges, chain_edges}
 use Rattle.gw_rules.specs.Seen.{kind_seen}
 use Rattle.gw_rules.proofs.Entries.{amount-with_entry}
 use Rattle.gw_rules.proofs.Parameters.{after_params}

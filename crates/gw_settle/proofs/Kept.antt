@@ -9,8 +9,8 @@ use Rattle.std.proofs.lemmas.Bool.{false≢true, eq-eqb, or_left, or_right}
 use Rattle.std.proofs.lemmas.List.Sums.{sum_by_more_le, count_by-le-length}
 use Rattle.std.proofs.lemmas.Option.{slice_get-map, slice_get_within, get_or_from_slice_get}
 use Rattle.std.proofs.lemmas.List.Elements.{All-nil, All-cons, All-head, All-tail, All-append, All-map, All-weaker, All-replicate}
-use Rattle.gw_blocks.specs.declared.parts.Block.{Block}
-use Rattle.gw_blocks.specs.declared.parts.Block.TheVariants as blocks
+use Rattle.gw_object.specs.declared.blocks.Block.{Block}
+use Rattle.gw_object.specs.declared.blocks.Block.TheVariants as blocks
 use Rattle.gw_object.specs.declared.parts.Entity.{Entity}
 use Rattle.gw_object.specs.declared.parts.Parts.{Parts}
 use Rattle.gw_object.specs.declared.parts.Kind.{Kind}
@@ -19,17 +19,16 @@ use Rattle.gw_object.specs.Entities.{chains_in, is_chain}
 use Rattle.gw_rules.specs.declared.entities.EntityKind.TheVariants.{Chain, Facility, StorageOrQueue}
 use Rattle.gw_rules.specs.declared.ways.Way.{Way}
 use Rattle.gw_rules.specs.declared.ways.Exit.{Exit}
-use Rattle.gw_operands.specs.Sources.{values}
+use Rattle.gw_rules.specs.Sources.{values}
 use Rattle.gw_rules.specs.Exits.{leads_to, exits, is_call, other_way}
 use Rattle.gw_rules.specs.Kinds.{block_at, chain_place, is_generate, is_call_at, needs, serves_as, entity_of}
 use Rattle.gw_rules.specs.KindsLaws.{IsEntity, MayBeEntered, BlockHolds}
 use Rattle.gw_rules.proofs.KindsHold.{kinds_pass_at_each_place}
 use Rattle.gw_rules.specs.declared.edges.Target.{Target}
 use Rattle.gw_rules.specs.declared.edges.Target.TheVariants as targets
-use Rattle.gw_rules.specs.Blocks.{FlowEdge}
+use Rattle.gw_rules.specs.Blocks.{FlowEdge, Table, Rule, rules, after, edges}
 use Rattle.gw_rules.specs.Entries.{lists}
 use Rattle.gw_rules.specs.Rows.{Row, ParamKind, Num, Ret, kind_of, units_of, return_blocks, nothing_known, parameters_alone, HasRoom, Fits}
-use Rattle.gw_rules.specs.Blocks.{Table, Rule, rules, after, edges}
 use Rattle.gw_rules.specs.Flow.{FlowPasses}
 use Rattle.gw_settle.specs.Joins.{is_within, joined_kind, join_rows, with_state}
 use Rattle.gw_settle.specs.Rounds.{TableRows, as_table, send_edge, all_sent, sends_in, sends, visit_block, visited_to, start_row, start}

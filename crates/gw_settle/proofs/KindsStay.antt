@@ -6,7 +6,7 @@ use Rattle.std.specs.Option.{option_map}
 use Rattle.std.proofs.lemmas.Bool.{and_from, lt-ltb}
 use Rattle.std.proofs.lemmas.Option.{slice_get_within}
 use Rattle.std.proofs.lemmas.List.Elements.{All-head, All-tail, All-append, All-map}
-use Rattle.gw_blocks.specs.declared.parts.Units.{Units}
+use Rattle.gw_object.specs.declared.blocks.Units.{Units}
 use Rattle.gw_object.specs.declared.fault.Fault.{Fault}
 use Rattle.gw_object.specs.declared.fault.Place.{Place}
 use Rattle.gw_object.specs.declared.fault.Place.TheVariants as places
@@ -20,10 +20,8 @@ use Rattle.gw_object.specs.Entities.{is_chain}
 use Rattle.gw_rules.specs.declared.entities.Named.{Named}
 use Rattle.gw_rules.specs.declared.entities.EntityKind.TheVariants.{Facility, StorageOrQueue}
 use Rattle.gw_rules.specs.Checks.{Check, first_broken, checks_by_number}
-use Rattle.gw_operands.specs.Sources.{kind_at}
-use Rattle.gw_rules.specs.Kinds.{needs, serves_as, is_there, is_no_other_kind, names_no_other_kind, are_there, entities_of_row, return_row_of}
-use Rattle.gw_rules.specs.Kinds.{has_return_rows, is_call_at, names_calls, chain_row, return_checks, row_checks, chain_checks, entity_checks}
-use Rattle.gw_rules.specs.Kinds.{block_checks}
+use Rattle.gw_rules.specs.Sources.{kind_at}
+use Rattle.gw_rules.specs.Kinds.{needs, serves_as, is_there, is_no_other_kind, names_no_other_kind, are_there, entities_of_row, return_row_of, has_return_rows, is_call_at, names_calls, chain_row, return_checks, row_checks, chain_checks, entity_checks, block_checks}
 use Rattle.gw_rules.specs.KindsLaws.{IsEntity}
 use Rattle.gw_rules.specs.Procedures.{procedure_checks}
 use Rattle.gw_rules.specs.Pass.{kinds_checks, KindsPass}

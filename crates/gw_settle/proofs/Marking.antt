@@ -11,16 +11,15 @@ use Rattle.std.proofs.lemmas.Bool.{cases_eq, cases_lt, and_parts, and_from, fals
 use Rattle.std.proofs.lemmas.List.{get_or-set_same, get_or-set_other, get_or-replicate, length-set}
 use Rattle.std.proofs.lemmas.Option.{slice_get_within, slice_get_past}
 use Rattle.std.proofs.lemmas.List.Elements.{All-nil, All-cons, All-head, All-tail, All-weaker}
-use Rattle.gw_blocks.specs.declared.parts.Block.{Block}
-use Rattle.gw_blocks.specs.declared.parts.Block.TheVariants as blocks
-use Rattle.gw_blocks.specs.declared.parts.Unlink.{Unlink}
+use Rattle.gw_object.specs.declared.blocks.Block.{Block}
+use Rattle.gw_object.specs.declared.blocks.Block.TheVariants as blocks
+use Rattle.gw_object.specs.declared.blocks.Unlink.{Unlink}
 use Rattle.gw_object.specs.declared.parts.Parts.{Parts}
 use Rattle.gw_rules.specs.Kinds.{block_at, chain_place}
 use Rattle.gw_rules.specs.declared.edges.Target.{Target}
 use Rattle.gw_rules.specs.declared.edges.Target.TheVariants as targets
-use Rattle.gw_rules.specs.Blocks.{FlowEdge}
+use Rattle.gw_rules.specs.Blocks.{FlowEdge, Table, Rule, rules, edges_from, joins, members_move, members_edges, edges}
 use Rattle.gw_rules.specs.Rows.{Row, Fits, params_fit, units_fit}
-use Rattle.gw_rules.specs.Blocks.{Table, Rule, rules, edges_from, joins, members_move, members_edges, edges}
 use Rattle.gw_rules.proofs.Fitting.{fits_is_decided, fits_itself, fits_on}
 use Rattle.gw_settle.specs.declared.table.Change.{Change}
 use Rattle.gw_settle.specs.declared.table.Change.TheVariants.{Same, Less, More}

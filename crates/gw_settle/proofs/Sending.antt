@@ -4,9 +4,9 @@ use Rattle.std.proofs.Common.{◌==◌, if◌then◌else◌, refl, sym, ap, subs
 use Rattle.std.specs.Prelude.{All, IfSome, ◌<◌}
 use Rattle.std.proofs.lemmas.Bool.{eq-eqb, eqb-true, or_cases, false≢true}
 use Rattle.std.proofs.lemmas.List.Elements.{All-nil, All-cons, All-head, All-tail, All-append}
-use Rattle.gw_blocks.specs.declared.parts.Block.{Block}
-use Rattle.gw_blocks.specs.declared.parts.Link.{Link}
-use Rattle.gw_blocks.specs.declared.parts.Block.TheVariants as blocks
+use Rattle.gw_object.specs.declared.blocks.Block.{Block}
+use Rattle.gw_object.specs.declared.blocks.Link.{Link}
+use Rattle.gw_object.specs.declared.blocks.Block.TheVariants as blocks
 use Rattle.gw_object.specs.declared.parts.Parts.{Parts}
 use Rattle.gw_rules.specs.declared.ways.Way.{Way}
 use Rattle.gw_rules.specs.declared.ways.Way.TheVariants.{Falls, Goes}
@@ -18,13 +18,11 @@ use Rattle.gw_rules.specs.Kinds.{block_at, chain_place}
 use Rattle.gw_object.specs.Entities.{chains_in}
 use Rattle.gw_rules.specs.declared.edges.Target.{Target}
 use Rattle.gw_rules.specs.declared.edges.Target.TheVariants as targets
-use Rattle.gw_rules.specs.Blocks.{FlowEdge}
+use Rattle.gw_rules.specs.Blocks.{FlowEdge, Table, number_in, parameter_set, with_setting, after, returns_read, move, is_used, known_of, edge_along, edges_along, edges_from, join, members_move, members_edges, chain_edges, edges}
 use Rattle.gw_rules.specs.declared.set_parameters.Parameter.{Parameter}
 use Rattle.gw_rules.specs.Entries.{lists, entry}
 use Rattle.gw_rules.specs.Rows.{Row, ParamKind, Num, Ret, kind_of, return_blocks}
 use Rattle.gw_rules.specs.Seen.{kind_seen}
-use Rattle.gw_rules.specs.Blocks.{Table, number_in, parameter_set, with_setting, after, returns_read, move, is_used, known_of, edge_along}
-use Rattle.gw_rules.specs.Blocks.{edges_along, edges_from, join, members_move, members_edges, chain_edges, edges}
 use Rattle.gw_rules.proofs.Entries.{entry-with_entry}
 use Rattle.gw_rules.proofs.EachBlock.{All-front, All-back}
 use Rattle.gw_rules.proofs.Chains.{ChainUse, Links, Unlinks, Neither, chain_use}

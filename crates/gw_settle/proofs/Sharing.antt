@@ -7,17 +7,16 @@ use Rattle.std.specs.Option.{option_flatten}
 use Rattle.std.proofs.lemmas.Bool.{cases_eq, false≢true, eqb-true, eq-eqb, ltb-true, ne_eqb}
 use Rattle.std.proofs.lemmas.List.{append-nil, get_or-set_same, get_or-set_other, length-set}
 use Rattle.std.proofs.lemmas.List.Elements.{All-nil, All-cons, All-head, All-tail}
-use Rattle.gw_blocks.specs.declared.parts.Block.{Block}
-use Rattle.gw_blocks.specs.declared.parts.Block.TheVariants as blocks
-use Rattle.gw_blocks.specs.declared.parts.Call.{Call}
+use Rattle.gw_object.specs.declared.blocks.Block.{Block}
+use Rattle.gw_object.specs.declared.blocks.Block.TheVariants as blocks
+use Rattle.gw_object.specs.declared.blocks.Call.{Call}
 use Rattle.gw_object.specs.declared.parts.Parts.{Parts}
 use Rattle.gw_rules.specs.Exits.{returns_to}
 use Rattle.gw_rules.specs.Kinds.{block_at}
 use Rattle.gw_rules.specs.declared.edges.Target.TheVariants as targets
-use Rattle.gw_rules.specs.Blocks.{FlowEdge}
+use Rattle.gw_rules.specs.Blocks.{FlowEdge, Table, after, move, edges_along}
 use Rattle.gw_rules.specs.Entries.{with_entry}
 use Rattle.gw_rules.specs.Rows.{Row, ParamKind, kind_of, return_blocks}
-use Rattle.gw_rules.specs.Blocks.{Table, after, move, edges_along}
 use Rattle.gw_settle.specs.declared.table.Change.{Change}
 use Rattle.gw_settle.specs.declared.table.Change.TheVariants.{Same, Less, More}
 use Rattle.gw_settle.specs.declared.passing.Behind.{Behind}

@@ -6,7 +6,7 @@ use Rattle.std.specs.List.{list_any}
 use Rattle.std.specs.Cmp.Lexicographic.{pointwise, bytes_decides}
 use Rattle.std.proofs.lemmas.Bool.{or_cases, or_parts, or_left, or_right, false≢true}
 use Rattle.std.proofs.lemmas.List.Elements.{All-nil, All-cons, All-head, All-tail, All-push}
-use Rattle.gw_blocks.specs.declared.parts.Units.{Units}
+use Rattle.gw_object.specs.declared.blocks.Units.{Units}
 use Rattle.gw_object.specs.Limits.{greatest_units, most_return_rows}
 use Rattle.gw_object.specs.Grammar.{ReturnRowFits, HeldFits, StateFits, HasSpelling}
 use Rattle.gw_object.specs.Reading.{out_of_memory}

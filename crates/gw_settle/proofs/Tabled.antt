@@ -3,27 +3,27 @@ use Rattle.std.proofs.Common.{◌≡◌, ℕ, ◌+◌, List, [], ◌∷◌, ◌+
 use Rattle.std.specs.Prelude.{All}
 use Rattle.std.specs.List.{flat_map}
 use Rattle.gw_num.specs.Table.{at}
-use Rattle.gw_blocks.specs.declared.parts.Block.{Block}
-use Rattle.gw_blocks.specs.declared.parts.Block.TheVariants as blocks
-use Rattle.gw_blocks.specs.declared.parts.Operand.{Operand}
-use Rattle.gw_blocks.specs.declared.parts.Operand.TheVariants as operands
-use Rattle.gw_code.specs.declared.parts.Instruction.{Instruction}
-use Rattle.gw_code.specs.declared.parts.Instruction.TheVariants as instructions
-use Rattle.gw_code.specs.declared.parts.Procedure.{Procedure}
+use Rattle.gw_object.specs.declared.blocks.Block.{Block}
+use Rattle.gw_object.specs.declared.blocks.Block.TheVariants as blocks
+use Rattle.gw_object.specs.declared.blocks.Operand.{Operand}
+use Rattle.gw_object.specs.declared.blocks.Operand.TheVariants as operands
+use Rattle.gw_object.specs.declared.code.Instruction.{Instruction}
+use Rattle.gw_object.specs.declared.code.Instruction.TheVariants as instructions
+use Rattle.gw_object.specs.declared.code.Procedure.{Procedure}
 use Rattle.gw_object.specs.declared.parts.ReturnRow.{ReturnRow}
 use Rattle.gw_object.specs.declared.parts.TableState.{TableState}
 use Rattle.gw_object.specs.declared.parts.Parts.{Parts}
 use Rattle.gw_rules.specs.Checks.{Check, first_broken, checks_by_number}
 use Rattle.gw_rules.specs.Kinds.{entity_checks, block_checks}
 use Rattle.gw_rules.specs.Procedures as kinds_of_code
-use Rattle.gw_operands.specs.Code.{cost_of_code, takes, asks_for, asked_by_source, parameters_asked}
+use Rattle.gw_rules.specs.Code.{cost_of_code, takes, asks_for, asked_by_source, parameters_asked}
 use Rattle.gw_rules.specs.PlusChecks.{Heights, heights_after, instruction_checks, code_checks, whole_checks, checks_from, plus_checks, PlusPasses}
 use Rattle.gw_rules.specs.Rows.{Row}
 use Rattle.gw_rules.specs.Blocks.{Table, Rule, own_rules, rules}
 use Rattle.gw_rules.specs.Flow.{FlowPasses}
 use Rattle.gw_rules.specs.FlowLaws.{FlowHolds}
 use Rattle.gw_rules.proofs.Passing.{flow_passes_at_each_block}
-use Rattle.gw_operands.specs.Sources.{evaluation_operands}
+use Rattle.gw_rules.specs.Sources.{evaluation_operands}
 use Rattle.gw_settle.specs.Settles.{with_table}
 
 module _ (p : Parts) (returns : List ReturnRow) (states chain_states : List (Option TableState)) where

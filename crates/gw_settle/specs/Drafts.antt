@@ -1,10 +1,9 @@
 -- A state table in the making, as the code has it.
 use Rattle.std.specs.Prelude.{◌≡◌, ◌≢◌, ◌⊎◌, ℕ, List, ◌++◌, length, Option, Some, IsSomeAnd}
-use Rattle.gw_blocks.specs.declared.parts.Block.{Block}
+use Rattle.gw_object.specs.declared.blocks.Block.{Block}
 use Rattle.gw_object.specs.declared.parts.Parts.{Parts}
 use Rattle.gw_flow.specs.declared.abstract_state.Amount.{Amount}
-use Rattle.gw_rules.specs.Blocks.{FlowEdge}
-use Rattle.gw_rules.specs.Blocks.{Table}
+use Rattle.gw_rules.specs.Blocks.{FlowEdge, Table}
 use Rattle.gw_rules.specs.Rows.{Row, units_of}
 use Rattle.gw_flow.specs.Known.{amounts_of}
 use Rattle.gw_settle.specs.declared.draft.Draft.{Draft}

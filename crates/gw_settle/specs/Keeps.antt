@@ -1,7 +1,7 @@
 -- What the rounds keep: each row that they compute fits the row of every table that passes.
 use Rattle.std.specs.Prelude.{◌≡◌, ℕ, ◌+◌, ◌*◌, ◌≤◌, ◌<◌, List, [], ◌∷◌, length, Option, Some, None, Bool, true, false, not, ◌&&◌, ◌==◌, All, IsSomeAnd, IfSome}
-use Rattle.gw_blocks.specs.declared.parts.Block.{Block}
-use Rattle.gw_blocks.specs.declared.parts.Block.TheVariants as blocks
+use Rattle.gw_object.specs.declared.blocks.Block.{Block}
+use Rattle.gw_object.specs.declared.blocks.Block.TheVariants as blocks
 use Rattle.gw_object.specs.declared.parts.Entity.{Entity}
 use Rattle.gw_object.specs.declared.parts.Parts.{Parts}
 use Rattle.gw_object.specs.Entities.{chains_in}
@@ -12,10 +12,9 @@ use Rattle.gw_rules.specs.Kinds.{block_at, chain_place, is_generate, is_call_at,
 use Rattle.gw_rules.specs.KindsLaws.{IsEntity}
 use Rattle.gw_rules.specs.declared.edges.Target.{Target}
 use Rattle.gw_rules.specs.declared.edges.Target.TheVariants as targets
-use Rattle.gw_rules.specs.Blocks.{FlowEdge}
+use Rattle.gw_rules.specs.Blocks.{FlowEdge, Table, replaces}
 use Rattle.gw_rules.specs.Entries.{lists}
 use Rattle.gw_rules.specs.Rows.{Row, ParamKind, Num, Ret, kind_of, units_of, nothing_known, Fits}
-use Rattle.gw_rules.specs.Blocks.{Table, replaces}
 use Rattle.gw_rules.specs.Flow.{FlowPasses}
 use Rattle.gw_settle.specs.Joins.{Within}
 use Rattle.gw_settle.specs.Rounds.{TableRows, as_table, sends, visit_block, start}

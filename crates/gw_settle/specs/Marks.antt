@@ -1,8 +1,8 @@
 -- Marks of the blocks that are to be visited: each other one would change nothing.
 use Rattle.std.specs.Prelude.{◌≡◌, ◌⊎◌, ℕ, zero, suc, List, length, get_or, set, Some, Bool, true, false}
-use Rattle.gw_blocks.specs.declared.parts.Block.{Block}
-use Rattle.gw_blocks.specs.declared.parts.Block.TheVariants as blocks
-use Rattle.gw_blocks.specs.declared.parts.Unlink.{Unlink}
+use Rattle.gw_object.specs.declared.blocks.Block.{Block}
+use Rattle.gw_object.specs.declared.blocks.Block.TheVariants as blocks
+use Rattle.gw_object.specs.declared.blocks.Unlink.{Unlink}
 use Rattle.gw_object.specs.declared.parts.Parts.{Parts}
 use Rattle.gw_rules.specs.Kinds.{block_at}
 use Rattle.gw_rules.specs.Blocks.{Table}

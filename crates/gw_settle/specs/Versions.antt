@@ -4,13 +4,12 @@ use Rattle.std.specs.Prelude.{option_to_list, Bool, true, if◌then◌else◌}
 use Rattle.std.specs.List.{list_all}
 use Rattle.std.specs.Option.{option_flatten}
 use Rattle.gw_object.specs.declared.parts.Parts.{Parts}
-use Rattle.gw_rules.specs.Blocks.{FlowEdge}
-use Rattle.gw_blocks.specs.declared.parts.Block.{Block}
-use Rattle.gw_blocks.specs.declared.parts.Block.TheVariants as blocks
-use Rattle.gw_blocks.specs.declared.parts.Fraction.{Fraction}
+use Rattle.gw_rules.specs.Blocks.{FlowEdge, Table, Rule, rules, move}
+use Rattle.gw_object.specs.declared.blocks.Block.{Block}
+use Rattle.gw_object.specs.declared.blocks.Block.TheVariants as blocks
+use Rattle.gw_object.specs.declared.blocks.Fraction.{Fraction}
 use Rattle.gw_rules.specs.Exits.{leads_to, goes_or_falls}
 use Rattle.gw_rules.specs.Rows.{Row, ParamKind}
-use Rattle.gw_rules.specs.Blocks.{Table, Rule, rules, move}
 use Rattle.gw_settle.specs.declared.table.Change.{Change}
 use Rattle.gw_settle.specs.declared.table.Change.TheVariants.{Same, Less, More}
 use Rattle.gw_settle.specs.declared.passing.Behind.{Behind}

@@ -9,9 +9,8 @@ ghost use Rattle.gw_settle.specs.Jumps.{AreDecided, PlaceFallsOn};
 use crate::draft::TableRows;
 use crate::known::{Known, number_after};
 use crate::passing::are_same_params;
-use gw_blocks::{Block, Units};
 use gw_flow::Amount;
-use gw_object::Parts;
+use gw_object::{Block, Parts, Units};
 
 /// Whether a number falls by as much in a second round, if it falls leaves something so many rounds on, and then falls by no
 /// more.

@@ -3,7 +3,7 @@
 //! made of all, also of those to which another block sends a row of the same version next.
 
 ghost use Rattle.std.specs.Prelude.{◌≡◌, ◌≢◌, ◌<◌, ◌+◌, [], ◌∷◌, All, IfOk, IfSome, Some, true, length, get_or, slice_get, ◌&&◌};
-ghost use Rattle.gw_blocks.specs.declared.parts.Block.TheVariants as blocks;
+ghost use Rattle.gw_object.specs.declared.blocks.Block.TheVariants as blocks;
 ghost use Rattle.gw_flow.specs.Known.{amounts_of};
 ghost use Rattle.gw_rules.specs.Kinds.{block_at};
 ghost use Rattle.gw_rules.specs.Rows.{kind_of, return_blocks};
@@ -20,9 +20,8 @@ ghost use Rattle.gw_settle.specs.Versions.{SaySameBut, AgreeBut, Sets, SendsBehi
 use crate::draft::Draft;
 use crate::known::{Known, KnownKind, KnownParam};
 use crate::table::{Change, followed_by, note, row_shared, send_at};
-use gw_blocks::{Block, Fraction};
 use gw_flow::{Amount, check_rules};
-use gw_object::{Memory, Parts};
+use gw_object::{Block, Fraction, Memory, Parts};
 use std::alloc::Global;
 
 /// What a row that is sent makes of the rows of one version.

@@ -11,8 +11,7 @@ use crate::known::Known;
 use crate::leaps::advance;
 use crate::pace::Pace;
 use crate::table::Change;
-use gw_blocks::Block;
-use gw_object::{Memory, Parts, chains_in};
+use gw_object::{Block, Memory, Parts, chains_in};
 use std::alloc::Global;
 
 /// The row of a block at the start.

@@ -10,11 +10,10 @@ ghost use Rattle.gw_settle.specs.Written.{NamesRow, NamesRows, ParamsName, State
 ghost use Rattle.gw_settle.specs.declared.written.Stop.TheVariants as stops;
 
 use crate::known::{Known, KnownKind, KnownParam};
-use gw_blocks::Units;
 use gw_flow::Amount;
 use gw_object::{
     GREATEST_UNITS, Items, MOST_RETURN_ROWS, Memory, ReturnRow, TableKind, TableParameter,
-    TableState,
+    TableState, Units,
 };
 use std::alloc::{AllocError, Global};
 

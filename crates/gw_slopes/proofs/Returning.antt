@@ -1,7 +1,7 @@
 -- A TRANSFER in parameter mode: where its returns lead to marked blocks.
 use Rattle.std.proofs.Common.{◌≡◌, ℕ, suc, ◌+◌, List, [], ◌∷◌, map, Bool, false, ◌||◌, refl, ap, ◌∙◌, arith, get_or}
 use Rattle.std.specs.List.{list_any}
-use Rattle.gw_blocks.specs.declared.parts.Block.TheVariants as blocks
+use Rattle.gw_object.specs.declared.blocks.Block.TheVariants as blocks
 use Rattle.gw_rules.specs.Exits.{returns_to}
 use Rattle.gw_slopes.specs.Sloped.{marked_at, leads_back}
 

@@ -1,8 +1,8 @@
 -- Which blocks get a slope on a parameter, where it is tried whether that helps: LOOPs on it, and what leads to one at once.
 use Rattle.std.specs.Prelude.{◌≡◌, ℕ, zero, suc, List, map, length, slice_index_or, Contains, Option, Some, None, Bool, true, false, ◌==◌, ◌&&◌, ◌||◌}
 use Rattle.std.specs.List.{list_any}
-use Rattle.gw_blocks.specs.declared.parts.Block.{Block}
-use Rattle.gw_blocks.specs.declared.parts.Block.TheVariants as blocks
+use Rattle.gw_object.specs.declared.blocks.Block.{Block}
+use Rattle.gw_object.specs.declared.blocks.Block.TheVariants as blocks
 use Rattle.gw_object.specs.declared.parts.Parts.{Parts}
 use Rattle.gw_rules.specs.Blocks.{returns_read}
 use Rattle.gw_rules.specs.Exits.{exits_with, leads_to}

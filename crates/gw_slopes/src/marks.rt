@@ -8,8 +8,7 @@ ghost use Rattle.gw_slopes.specs.Sloped as model;
 ghost use Rattle.gw_slopes.specs.Marking.{AreSound, IsRound, StaySound, is_due, marked_if};
 
 use crate::sources::Sources;
-use gw_blocks::Block;
-use gw_object::{Parts, TableState};
+use gw_object::{Block, Parts, TableState};
 use gw_rules::{Exit, Treatment, exits, leads_to, treats};
 use gw_weights::{blocks_read, goes_at_once, own_row};
 use std::alloc::{AllocError, Global};

@@ -2,8 +2,7 @@
 
 ghost use Rattle.std.specs.Prelude.{◌<◌, ◌≤◌, length};
 
-use gw_blocks::Block;
-use gw_object::{Memory, Parts, ReturnRow, TableKind, TableState};
+use gw_object::{Block, Memory, Parts, ReturnRow, TableKind, TableState};
 use gw_rules::{Exit, exits, leads_to};
 use gw_weights::{goes_at_once, own_row, parameter_of};
 use std::alloc::Global;

@@ -3,17 +3,17 @@ use Rattle.std.proofs.Common.{◌≡◌, ℕ, zero, suc, ◌+◌, ◌≤◌, ℤ
 use Rattle.std.proofs.Common.{◌∙◌, subst, arith}
 use Rattle.std.specs.Prelude.{◌<ℤ◌, sum, slice_get, nat_le, IfSome}
 use Rattle.std.proofs.lemmas.List.Elements.{All-nil}
-use Rattle.gw_blocks.specs.declared.parts.Generate.{Generate}
+use Rattle.gw_object.specs.declared.blocks.Generate.{Generate}
 use Rattle.gw_object.specs.declared.parts.Entity.{Entity}
-use Rattle.gw_blocks.specs.declared.parts.Block.{Block}
-use Rattle.gw_blocks.specs.declared.parts.Block.TheVariants as blocks
+use Rattle.gw_object.specs.declared.blocks.Block.{Block}
+use Rattle.gw_object.specs.declared.blocks.Block.TheVariants as blocks
 use Rattle.gw_object.specs.declared.parts.Parts.{Parts}
 use Rattle.gw_object.specs.Entities.{capacity_of}
 use Rattle.gw_rules.specs.Kinds.{block_at, is_generate}
 use Rattle.gw_rules.specs.FlowCodes as codes
 use Rattle.gw_rules.specs.Rows.{Row, is_empty}
 use Rattle.gw_rules.specs.Blocks.{capacity_at}
-use Rattle.gw_operands.specs.Environment.{Environment}
+use Rattle.gw_rules.specs.Environment.{Environment}
 use Rattle.gw_rules.specs.Flow.{own_table, own_row}
 use Rattle.gw_rules.specs.FlowLaws.{FlowHolds}
 use Rattle.gw_num.specs.Table.{at}

@@ -1,15 +1,15 @@
 -- Where operands are evaluated, the parameters are set that they ask for.
 use Rattle.std.proofs.Common.{◌≡◌, ℕ, ℤ, [], ◌∷◌, Option, Some, None, true, refl, sym, ap, ◌∙◌, subst, arith}
 use Rattle.std.specs.Prelude.{All}
-use Rattle.gw_blocks.specs.declared.parts.Generate.{Generate}
-use Rattle.gw_blocks.specs.declared.parts.Block.{Block}
-use Rattle.gw_blocks.specs.declared.parts.Block.TheVariants as blocks
+use Rattle.gw_object.specs.declared.blocks.Generate.{Generate}
+use Rattle.gw_object.specs.declared.blocks.Block.{Block}
+use Rattle.gw_object.specs.declared.blocks.Block.TheVariants as blocks
 use Rattle.gw_object.specs.declared.parts.Parts.{Parts}
-use Rattle.gw_operands.specs.Sources.{evaluation_operands}
+use Rattle.gw_rules.specs.Sources.{evaluation_operands}
 use Rattle.gw_rules.specs.Kinds.{block_at, is_generate}
 use Rattle.gw_rules.specs.KindsLaws.{EntityHolds, BlockHolds}
 use Rattle.gw_rules.proofs.Sources.{evaluated_holds}
-use Rattle.gw_operands.specs.Environment.{Environment}
+use Rattle.gw_rules.specs.Environment.{Environment}
 use Rattle.gw_rules.specs.FlowCodes as codes
 use Rattle.gw_rules.specs.Rows.{ParamKind, Num, Row, kind_of, is_empty}
 use Rattle.gw_rules.specs.Flow.{own_table, own_row}

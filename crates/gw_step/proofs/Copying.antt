@@ -7,18 +7,17 @@ use Rattle.std.proofs.lemmas.List.Elements.{All-head, All-tail}
 use Rattle.std.specs.Option.{option_map_or}
 use Rattle.std.specs.List.{find}
 use Rattle.std.proofs.lemmas.Bool.{cases_lt, eqb-true, leb-true, le-leb, false≢true, and_parts}
-use Rattle.gw_blocks.specs.declared.parts.Priority.{Priority}
-use Rattle.gw_blocks.specs.declared.parts.Split.{Split}
-use Rattle.gw_blocks.specs.declared.parts.Block.{Block}
-use Rattle.gw_blocks.specs.declared.parts.Block.TheVariants as blocks
+use Rattle.gw_object.specs.declared.blocks.Priority.{Priority}
+use Rattle.gw_object.specs.declared.blocks.Split.{Split}
+use Rattle.gw_object.specs.declared.blocks.Block.{Block}
+use Rattle.gw_object.specs.declared.blocks.Block.TheVariants as blocks
 use Rattle.gw_object.specs.declared.parts.Parts.{Parts}
 use Rattle.gw_rules.specs.Exits.{leads_to, for_copies, goes_or_falls}
 use Rattle.gw_rules.specs.Kinds.{block_at}
 use Rattle.gw_rules.specs.KindsLaws.{MayBeEntered}
 use Rattle.gw_rules.specs.FlowCodes as codes
-use Rattle.gw_rules.specs.Blocks.{FlowEdge}
+use Rattle.gw_rules.specs.Blocks.{FlowEdge, move, edges}
 use Rattle.gw_rules.specs.Rows.{Row, parameters_alone}
-use Rattle.gw_rules.specs.Blocks.{move, edges}
 use Rattle.gw_rules.specs.Flow.{own_table, own_row}
 use Rattle.gw_num.proofs.Tables.{at-put_other}
 use Rattle.gw_transactions.specs.declared.Transaction.{Transaction}

@@ -8,35 +8,35 @@ use Rattle.std.specs.List.{list_any}
 use Rattle.std.proofs.lemmas.Bool.{cases_eq, eq-eqb, ne_eqb, or_left, leb-true, le-leb, false≢true}
 use Rattle.std.proofs.lemmas.Int.{ints}
 use Rattle.std.proofs.lemmas.List.Elements.{All-head, Contains-append_left}
-use Rattle.gw_blocks.specs.declared.parts.Operand.{Operand}
-use Rattle.gw_blocks.specs.declared.parts.Spread.{Spread}
-use Rattle.gw_blocks.specs.declared.parts.Units.{Units}
-use Rattle.gw_blocks.specs.declared.parts.Fraction.{Fraction}
-use Rattle.gw_blocks.specs.declared.parts.Both.{Both}
-use Rattle.gw_blocks.specs.declared.parts.Assign.{Assign}
-use Rattle.gw_blocks.specs.declared.parts.Call.{Call}
-use Rattle.gw_blocks.specs.declared.parts.Loop.{Loop}
-use Rattle.gw_blocks.specs.declared.parts.Logic.{Logic}
-use Rattle.gw_blocks.specs.declared.parts.Test.{Test}
-use Rattle.gw_blocks.specs.declared.parts.Gate.{Gate}
-use Rattle.gw_blocks.specs.declared.parts.Save.{Save}
-use Rattle.gw_blocks.specs.declared.parts.Plus.{Plus}
+use Rattle.gw_object.specs.declared.blocks.Operand.{Operand}
+use Rattle.gw_object.specs.declared.blocks.Spread.{Spread}
+use Rattle.gw_object.specs.declared.blocks.Units.{Units}
+use Rattle.gw_object.specs.declared.blocks.Fraction.{Fraction}
+use Rattle.gw_object.specs.declared.blocks.Both.{Both}
+use Rattle.gw_object.specs.declared.blocks.Assign.{Assign}
+use Rattle.gw_object.specs.declared.blocks.Call.{Call}
+use Rattle.gw_object.specs.declared.blocks.Loop.{Loop}
+use Rattle.gw_object.specs.declared.blocks.Logic.{Logic}
+use Rattle.gw_object.specs.declared.blocks.Test.{Test}
+use Rattle.gw_object.specs.declared.blocks.Gate.{Gate}
+use Rattle.gw_object.specs.declared.blocks.Save.{Save}
+use Rattle.gw_object.specs.declared.blocks.Plus.{Plus}
 use Rattle.gw_object.specs.declared.parts.Kind.{Kind}
 use Rattle.gw_object.specs.declared.parts.Kind.TheVariants as kinds
-use Rattle.gw_blocks.specs.declared.parts.Block.{Block}
-use Rattle.gw_blocks.specs.declared.parts.Block.TheVariants as blocks
+use Rattle.gw_object.specs.declared.blocks.Block.{Block}
+use Rattle.gw_object.specs.declared.blocks.Block.TheVariants as blocks
 use Rattle.gw_object.specs.declared.parts.Parts.{Parts}
 use Rattle.gw_rules.specs.declared.entities.EntityKind.TheVariants as needed
 use Rattle.gw_rules.specs.declared.ways.Way.TheVariants.{Falls, Goes}
 use Rattle.gw_rules.specs.declared.ways.Exit.{Exit}
 use Rattle.gw_rules.specs.Exits.{takes_time, leads_to, at_once, goes_or_falls, falls_or_goes, exits, returns_to, exits_with}
-use Rattle.gw_operands.specs.Sources.{kind_at}
+use Rattle.gw_rules.specs.Sources.{kind_at}
 use Rattle.gw_rules.specs.Kinds.{block_at, needs}
 use Rattle.gw_rules.specs.KindsLaws.{MayBeEntered, ReturnsHold, BlockHolds}
 use Rattle.gw_rules.specs.FlowCodes as codes
 use Rattle.gw_rules.specs.Entries.{lists}
 use Rattle.gw_rules.specs.Rows.{ParamKind, Num, Ret, Row, kind_of, return_blocks, owns, units_of, with_parameter, with_facility, without_facility, with_units}
-use Rattle.gw_operands.specs.Values.{evaluation_of}
+use Rattle.gw_rules.specs.Values.{evaluation_of}
 use Rattle.gw_rules.proofs.Parameters.{loop_is_number, return_is, kind_of_set, kind_of_other}
 use Rattle.gw_num.specs.Arithmetic.{fits_i64, difference_of}
 use Rattle.gw_rules.specs.Blocks.{capacity_at, move, edges, edges_from, chain_edges, edges_along, returns_read, after}
@@ -84,9 +84,9 @@ use Rattle.gw_step.proofs.Returns.{may_come_back}
 use Rattle.gw_step.proofs.Paying.{Does, Makes, one_apart, choice_paid, exits_paid, way_paid, return_paid}
 use Rattle.gw_step.specs.Weight.{height, weighs_there}
 use Rattle.gw_num.specs.Table.{put}
-use Rattle.gw_blocks.specs.declared.parts.Mode.{Mode}
-use Rattle.gw_blocks.specs.declared.parts.Mode.TheVariants.{Set}
-use Rattle.gw_blocks.specs.declared.parts.Operand.TheVariants.{Constant}
+use Rattle.gw_object.specs.declared.blocks.Mode.{Mode}
+use Rattle.gw_object.specs.declared.blocks.Mode.TheVariants.{Set}
+use Rattle.gw_object.specs.declared.blocks.Operand.TheVariants.{Constant}
 use Rattle.gw_num.specs.declared.arithmetic.NumFault.{NumFault}
 use Rattle.gw_rules.specs.declared.ways.Way.{Way}
 use Rattle.gw_step.proofs.Timed.{TellsValue, after_clock}

@@ -2,9 +2,9 @@
 use Rattle.std.proofs.Common.{◌≡◌, ℕ, zero, suc, ◌+◌, ◌<◌, ◌≤◌, ℤ, List, [], ◌∷◌, length, Option, Some, is_some, ◌==◌, refl, ap, subst, arith, IsSome}
 use Rattle.std.specs.Prelude.{All, IfSome, IsSomeAnd}
 use Rattle.std.proofs.lemmas.List.Elements.{All-head, All-tail}
-use Rattle.gw_blocks.specs.declared.parts.Link.{Link}
-use Rattle.gw_blocks.specs.declared.parts.Unlink.{Unlink}
-use Rattle.gw_blocks.specs.declared.parts.Block.TheVariants as blocks
+use Rattle.gw_object.specs.declared.blocks.Link.{Link}
+use Rattle.gw_object.specs.declared.blocks.Unlink.{Unlink}
+use Rattle.gw_object.specs.declared.blocks.Block.TheVariants as blocks
 use Rattle.gw_object.specs.declared.parts.Parts.{Parts}
 use Rattle.gw_rules.specs.declared.entities.EntityKind.TheVariants as needed
 use Rattle.gw_rules.specs.declared.ways.Way.{Way}
@@ -14,8 +14,7 @@ use Rattle.gw_rules.specs.Kinds.{needs}
 use Rattle.gw_rules.specs.KindsLaws.{MayBeEntered}
 use Rattle.gw_rules.specs.Rows.{Row, Fits}
 use Rattle.gw_rules.specs.declared.edges.Target.TheVariants as targets
-use Rattle.gw_rules.specs.Blocks.{FlowEdge}
-use Rattle.gw_rules.specs.Blocks.{move, join, members_move}
+use Rattle.gw_rules.specs.Blocks.{FlowEdge, move, join, members_move}
 use Rattle.gw_rules.specs.Flow.{own_table}
 use Rattle.gw_rules.specs.FlowLaws.{FlowHolds}
 use Rattle.gw_transactions.specs.declared.Transaction.{Transaction}

@@ -2,12 +2,12 @@
 use Rattle.std.proofs.Common.{◌≡◌, ◌≢◌, ℕ, suc, ◌+◌, ◌≤◌, ℤ, List, [], ◌∷◌, Option, Some, None, Bool, true, false, not, refl, sym, ap, ◌∙◌, subst, arith}
 use Rattle.std.specs.Prelude.{sum, IsSomeAnd, Contains, All}
 use Rattle.std.proofs.lemmas.List.Elements.{All-head}
-use Rattle.gw_blocks.specs.declared.parts.Block.{Block}
+use Rattle.gw_object.specs.declared.blocks.Block.{Block}
 use Rattle.gw_object.specs.declared.parts.Parts.{Parts}
 use Rattle.gw_rules.specs.Kinds.{block_at, is_generate}
 use Rattle.gw_rules.specs.KindsLaws.{MayBeEntered, BlockHolds}
 use Rattle.gw_rules.specs.Rows.{Row, kind_of, owns}
-use Rattle.gw_rules.specs.Blocks.{Rule, own_rules, move, edges}
+use Rattle.gw_rules.specs.Blocks.{Rule, own_rules, move, edges, returns_read}
 use Rattle.gw_rules.proofs.Parameters.{own_rules_hold}
 use Rattle.gw_rules.specs.Flow.{own_table}
 use Rattle.gw_rules.specs.FlowLaws.{MayPass}
@@ -43,7 +43,6 @@ use Rattle.gw_rules.specs.Weights.{above, changed_parameter, treatment}
 use Rattle.gw_rules.specs.declared.ways.Way.{Way}
 use Rattle.gw_rules.specs.declared.ways.Exit.{Exit}
 use Rattle.gw_rules.specs.Exits.{leads_to, at_once, exits_with}
-use Rattle.gw_rules.specs.Blocks.{returns_read}
 use Rattle.gw_rules.specs.declared.edges.Target.TheVariants as targets
 
 -- the active transaction of a well-typed state is at a block, in a row, and what kinds and flow say of the two

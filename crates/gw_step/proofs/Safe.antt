@@ -3,10 +3,10 @@ use Rattle.std.proofs.Common.{◌≡◌, ◌≢◌, ℕ, zero, suc, ◌+◌, ◌
 use Rattle.std.proofs.Common.{if◌then◌else◌, ◌==◌, ◌&&◌, refl, sym, ap, ◌∙◌, subst, arith, ⊎_elim}
 use Rattle.std.specs.Prelude.{All, IfSome, IsSome, Contains}
 use Rattle.std.proofs.lemmas.Bool.{eqb-true}
-use Rattle.gw_blocks.specs.declared.parts.Block.{Block}
-use Rattle.gw_blocks.specs.declared.parts.Block.TheVariants as blocks
+use Rattle.gw_object.specs.declared.blocks.Block.{Block}
+use Rattle.gw_object.specs.declared.blocks.Block.TheVariants as blocks
 use Rattle.gw_object.specs.declared.parts.Parts.{Parts}
-use Rattle.gw_blocks.specs.declared.parts.Both.{Both}
+use Rattle.gw_object.specs.declared.blocks.Both.{Both}
 use Rattle.gw_rules.specs.declared.ways.Way.TheVariants.{Falls, Goes}
 use Rattle.gw_rules.specs.Exits.{leads_to, goes_or_falls, at_once}
 use Rattle.gw_rules.specs.Kinds.{block_at}
@@ -28,7 +28,7 @@ use Rattle.gw_step.specs.Numbers.{made_in}
 use Rattle.gw_step.specs.declared.ends.End.TheVariants.{Budget}
 use Rattle.gw_step.specs.Outcome.{Outcome, Gives, EndsBy, HasNoCase, evaluation_outcome}
 use Rattle.gw_step.specs.State.{FutureEvent, State, with_streams}
-use Rattle.gw_operands.specs.Values.{operands}
+use Rattle.gw_rules.specs.Values.{operands}
 use Rattle.gw_step.specs.Times.{parameters_of, environment_of}
 use Rattle.gw_step.specs.Changes.{wake, clock_moves}
 use Rattle.gw_step.specs.Blocks.{refuses, the_value, link, effect, meets, act}

@@ -2,13 +2,13 @@
 use Rattle.std.proofs.Common.{◌≡◌, ℕ, List, [], ◌∷◌, Option, Some, None, refl}
 use Rattle.std.specs.Prelude.{All}
 use Rattle.std.proofs.lemmas.List.Elements.{All-nil, All-head, All-tail}
-use Rattle.gw_blocks.specs.declared.parts.Operand.{Operand}
-use Rattle.gw_blocks.specs.declared.parts.Block.{Block}
-use Rattle.gw_blocks.specs.declared.parts.Block.TheVariants as blocks
-use Rattle.gw_blocks.specs.Grammar.{OperandFits}
+use Rattle.gw_object.specs.declared.blocks.Operand.{Operand}
+use Rattle.gw_object.specs.declared.blocks.Block.{Block}
+use Rattle.gw_object.specs.declared.blocks.Block.TheVariants as blocks
+use Rattle.gw_object.specs.BlockGrammar.{OperandFits}
 use Rattle.gw_object.specs.declared.parts.Parts.{Parts}
-use Rattle.gw_operands.specs.Environment.{Environment}
-use Rattle.gw_operands.specs.Sources.{evaluation_operands}
+use Rattle.gw_rules.specs.Environment.{Environment}
+use Rattle.gw_rules.specs.Sources.{evaluation_operands}
 use Rattle.gw_step.specs.Operands.{environment_at, MayEvaluate}
 use Rattle.gw_step.specs.Safety.{ParametersSuffice, IntervalsAskForNothing}
 use Rattle.gw_step.proofs.Operands.{block_spelled, evaluated_spelled}

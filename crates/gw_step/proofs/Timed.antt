@@ -3,20 +3,19 @@ use Rattle.std.proofs.Common.{◌≡◌, ℕ, ℤ, pos, ◌+ℤ◌, List, Result
 use Rattle.std.proofs.lemmas.Int.{ints}
 use Rattle.std.specs.Prelude.{◌<ℤ◌, int_lt, int_le, ◌&&◌}
 use Rattle.std.proofs.lemmas.Bool.{false≢true, and_parts}
-use Rattle.gw_blocks.specs.declared.parts.Operand.{Operand}
-use Rattle.gw_blocks.specs.declared.parts.Operand.TheVariants as operands
-use Rattle.gw_blocks.specs.declared.parts.Spread.{Spread}
-use Rattle.gw_blocks.specs.declared.parts.Block.{Block}
-use Rattle.gw_blocks.specs.declared.parts.Block.TheVariants as blocks
+use Rattle.gw_object.specs.declared.blocks.Operand.{Operand}
+use Rattle.gw_object.specs.declared.blocks.Operand.TheVariants as operands
+use Rattle.gw_object.specs.declared.blocks.Spread.{Spread}
+use Rattle.gw_object.specs.declared.blocks.Block.{Block}
+use Rattle.gw_object.specs.declared.blocks.Block.TheVariants as blocks
 use Rattle.gw_object.specs.declared.parts.Parts.{Parts}
 use Rattle.gw_num.specs.declared.arithmetic.NumFault.{NumFault}
 use Rattle.gw_num.specs.Arithmetic.{fits_i64, sum_of}
 use Rattle.gw_num.specs.Generator as generator
 use Rattle.gw_num.proofs.Draws.{times_lie_within}
 use Rattle.gw_rules.specs.Exits.{takes_time}
-use Rattle.gw_operands.specs.Environment.{Environment}
-use Rattle.gw_operands.specs.Values.{Evaluation, Value, Fails, Unset, ◌>>=◌, evaluation_of, first_stream, with_first, drawn_time, single_value}
-use Rattle.gw_operands.specs.Values.{operand_value, operands as operand_values}
+use Rattle.gw_rules.specs.Environment.{Environment}
+use Rattle.gw_rules.specs.Values.{Evaluation, Value, Fails, Unset, ◌>>=◌, evaluation_of, first_stream, with_first, drawn_time, single_value, operand_value, operands as operand_values}
 use Rattle.gw_step.specs.declared.ends.End.TheVariants.{NegativeTime}
 use Rattle.gw_step.specs.Outcome.{EndsBy, evaluation_outcome}
 use Rattle.gw_step.specs.Times.{moment_after, drawn_moment}

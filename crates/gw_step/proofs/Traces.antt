@@ -14,13 +14,13 @@ use Rattle.gw_members.specs.Firsts.{without_first, with_first_changed}
 use Rattle.std.specs.Option.{option_map_or}
 use Rattle.std.proofs.lemmas.Bool.{cases_eq, eqb-true, false≢true, and_parts}
 use Rattle.std.proofs.lemmas.List.Elements.{All-contains, All-head, All-tail, All-cons, All-nil}
-use Rattle.gw_blocks.specs.declared.parts.Generate.{Generate}
+use Rattle.gw_object.specs.declared.blocks.Generate.{Generate}
 use Rattle.gw_object.specs.declared.parts.Kind.{Kind}
 use Rattle.gw_object.specs.declared.parts.Kind.TheVariants as kinds
-use Rattle.gw_blocks.specs.declared.parts.Block.{Block}
-use Rattle.gw_blocks.specs.declared.parts.Block.TheVariants as blocks
+use Rattle.gw_object.specs.declared.blocks.Block.{Block}
+use Rattle.gw_object.specs.declared.blocks.Block.TheVariants as blocks
 use Rattle.gw_object.specs.declared.parts.Parts.{Parts}
-use Rattle.gw_operands.specs.Sources.{kind_at}
+use Rattle.gw_rules.specs.Sources.{kind_at}
 use Rattle.gw_rules.specs.Kinds.{block_at, is_generate}
 use Rattle.gw_rules.specs.KindsLaws.{MayBeEntered}
 use Rattle.gw_rules.specs.Entries.{entry}
@@ -32,7 +32,7 @@ use Rattle.gw_rules.proofs.Fitting.{included}
 use Rattle.gw_num.specs.Table.{at, put}
 use Rattle.gw_num.proofs.Tables.{at-map, at-put, at-put_other, put-put, by_entry, at_past}
 use Rattle.gw_members.specs.Chain.{behind, rest}
-use Rattle.gw_blocks.specs.declared.parts.Link.{Link}
+use Rattle.gw_object.specs.declared.blocks.Link.{Link}
 use Rattle.gw_rules.specs.declared.edges.Target.TheVariants as targets
 use Rattle.gw_transactions.specs.declared.Transaction.{Transaction}
 use Rattle.gw_entities.specs.declared.facilities.Facility.{Facility}

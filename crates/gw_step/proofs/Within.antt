@@ -6,7 +6,7 @@ use Rattle.std.proofs.Common.{if◌then◌else◌, ◌==◌, refl, ap, ◌∙◌
 use Rattle.std.proofs.lemmas.Int.{ints}
 use Rattle.std.specs.Prelude.{sum, int_le, IfSome}
 use Rattle.std.proofs.lemmas.Bool.{cases_eq, eq-eqb, ne_eqb}
-use Rattle.gw_blocks.specs.declared.parts.Link.{Link}
+use Rattle.gw_object.specs.declared.blocks.Link.{Link}
 use Rattle.gw_members.specs.Chain.{placed_behind, behind, in_time, later}
 use Rattle.gw_num.specs.Table.{at, put}
 use Rattle.gw_num.proofs.Tables.{by_entry, length-put, length-put_next, sum_by-put}

@@ -4,34 +4,33 @@ use Rattle.std.specs.Prelude.{false, not, nat_lt, nat_le, ◌==◌, if◌then◌
 use Rattle.std.specs.Ordering.{int_eq}
 use Rattle.std.specs.Option.{option_map_or}
 use Rattle.std.specs.List.{find}
-use Rattle.gw_blocks.specs.declared.parts.Generate.{Generate}
-use Rattle.gw_blocks.specs.declared.parts.Units.{Units}
-use Rattle.gw_blocks.specs.declared.parts.Fraction.{Fraction}
-use Rattle.gw_blocks.specs.declared.parts.Both.{Both}
-use Rattle.gw_blocks.specs.declared.parts.Comparison.{Comparison}
-use Rattle.gw_blocks.specs.declared.parts.Comparison.TheVariants.{Equal, NotEqual, Greater, GreaterOrEqual, Less, LessOrEqual}
-use Rattle.gw_blocks.specs.declared.parts.Test.{Test}
-use Rattle.gw_blocks.specs.declared.parts.Condition.{Condition}
-use Rattle.gw_blocks.specs.declared.parts.Condition.TheVariants.{SwitchSet, SwitchReset, FacilityInUse, FacilityNotInUse, StorageFull, StorageEmpty}
-use Rattle.gw_blocks.specs.declared.parts.Condition.TheVariants.{StorageNotFull, StorageNotEmpty}
-use Rattle.gw_blocks.specs.declared.parts.Mode.{Mode}
-use Rattle.gw_blocks.specs.declared.parts.Mode.TheVariants.{Set, Add, Subtract}
-use Rattle.gw_blocks.specs.declared.parts.Assign.{Assign}
-use Rattle.gw_blocks.specs.declared.parts.Call.{Call}
-use Rattle.gw_blocks.specs.declared.parts.Loop.{Loop}
-use Rattle.gw_blocks.specs.declared.parts.SwitchAction.{SwitchAction}
-use Rattle.gw_blocks.specs.declared.parts.SwitchAction.TheVariants as switches
-use Rattle.gw_blocks.specs.declared.parts.Logic.{Logic}
-use Rattle.gw_blocks.specs.declared.parts.Save.{Save}
-use Rattle.gw_blocks.specs.declared.parts.Split.{Split}
-use Rattle.gw_blocks.specs.declared.parts.Link.{Link}
-use Rattle.gw_blocks.specs.declared.parts.Unlink.{Unlink}
-use Rattle.gw_blocks.specs.declared.parts.Block.{Block}
-use Rattle.gw_blocks.specs.declared.parts.Block.TheVariants as blocks
+use Rattle.gw_object.specs.declared.blocks.Generate.{Generate}
+use Rattle.gw_object.specs.declared.blocks.Units.{Units}
+use Rattle.gw_object.specs.declared.blocks.Fraction.{Fraction}
+use Rattle.gw_object.specs.declared.blocks.Both.{Both}
+use Rattle.gw_object.specs.declared.blocks.Comparison.{Comparison}
+use Rattle.gw_object.specs.declared.blocks.Comparison.TheVariants.{Equal, NotEqual, Greater, GreaterOrEqual, Less, LessOrEqual}
+use Rattle.gw_object.specs.declared.blocks.Test.{Test}
+use Rattle.gw_object.specs.declared.blocks.Condition.{Condition}
+use Rattle.gw_object.specs.declared.blocks.Condition.TheVariants.{SwitchSet, SwitchReset, FacilityInUse, FacilityNotInUse, StorageFull, StorageEmpty, StorageNotFull, StorageNotEmpty}
+use Rattle.gw_object.specs.declared.blocks.Mode.{Mode}
+use Rattle.gw_object.specs.declared.blocks.Mode.TheVariants.{Set, Add, Subtract}
+use Rattle.gw_object.specs.declared.blocks.Assign.{Assign}
+use Rattle.gw_object.specs.declared.blocks.Call.{Call}
+use Rattle.gw_object.specs.declared.blocks.Loop.{Loop}
+use Rattle.gw_object.specs.declared.blocks.SwitchAction.{SwitchAction}
+use Rattle.gw_object.specs.declared.blocks.SwitchAction.TheVariants as switches
+use Rattle.gw_object.specs.declared.blocks.Logic.{Logic}
+use Rattle.gw_object.specs.declared.blocks.Save.{Save}
+use Rattle.gw_object.specs.declared.blocks.Split.{Split}
+use Rattle.gw_object.specs.declared.blocks.Link.{Link}
+use Rattle.gw_object.specs.declared.blocks.Unlink.{Unlink}
+use Rattle.gw_object.specs.declared.blocks.Block.{Block}
+use Rattle.gw_object.specs.declared.blocks.Block.TheVariants as blocks
 use Rattle.gw_object.specs.declared.parts.Parts.{Parts}
 use Rattle.gw_rules.specs.Kinds.{block_at}
 use Rattle.gw_rules.specs.Exits.{leads_to, goes_or_falls}
-use Rattle.gw_operands.specs.Values.{evaluation_of, operands}
+use Rattle.gw_rules.specs.Values.{evaluation_of, operands}
 use Rattle.gw_num.specs.declared.arithmetic.NumFault.{NumFault}
 use Rattle.gw_num.specs.Arithmetic.{sum_of, difference_of}
 use Rattle.gw_num.specs.Table.{at}

@@ -1,11 +1,11 @@
 -- Typed states never get stuck: no job of a checked object meets an error stop.
 use Rattle.std.specs.Prelude.{◌≡◌, ℕ, ◌<◌, ◌≤◌, [], Some, None}
-use Rattle.gw_blocks.specs.declared.parts.Generate.{Generate}
-use Rattle.gw_blocks.specs.declared.parts.Block.TheVariants as blocks
+use Rattle.gw_object.specs.declared.blocks.Generate.{Generate}
+use Rattle.gw_object.specs.declared.blocks.Block.TheVariants as blocks
 use Rattle.gw_object.specs.declared.parts.Parts.{Parts}
 use Rattle.gw_object.specs.Grammar.{HasSpelling}
 use Rattle.gw_rules.specs.Kinds.{block_at}
-use Rattle.gw_operands.specs.Environment.{Environment}
+use Rattle.gw_rules.specs.Environment.{Environment}
 use Rattle.gw_step.specs.Operands.{MayDraw, MayStep}
 use Rattle.gw_step.specs.Asks.{IsServed}
 use Rattle.gw_rules.specs.Accepted.{Checked}

@@ -1,12 +1,12 @@
 -- One step of a job.
 use Rattle.std.specs.Prelude.{Bool, ℕ, ◌+◌, List, [], ◌∷◌, Option, Some, None, ◌==◌, ◌&&◌, is_none, if◌then◌else◌}
-use Rattle.gw_blocks.specs.declared.parts.Block.{Block}
+use Rattle.gw_object.specs.declared.blocks.Block.{Block}
 use Rattle.gw_object.specs.declared.parts.Parts.{Parts}
 use Rattle.gw_rules.specs.Kinds.{block_at}
 use Rattle.gw_transactions.specs.Transactions.{attributes_at}
 use Rattle.gw_step.specs.declared.ends.End.TheVariants.{NoMoreEvents, Budget}
 use Rattle.gw_step.specs.Outcome.{Outcome, Gives, EndsBy, HasNoCase, ◌>>=◌, case_of, evaluation_outcome}
-use Rattle.gw_operands.specs.Values.{operands}
+use Rattle.gw_rules.specs.Values.{operands}
 use Rattle.gw_transactions.specs.declared.Transaction.{Transaction}
 use Rattle.gw_step.specs.declared.placement.Placement.TheVariants.{JoinsRetryList}
 use Rattle.gw_step.specs.Placing.{place_by}

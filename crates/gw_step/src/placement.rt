@@ -1,6 +1,6 @@
 //! Where a transaction is placed.
 
-use gw_blocks::Link;
+use gw_object::Link;
 
 /// An assembly that begins.
 #[derive(Clone, Copy, PartialEq, Eq)]

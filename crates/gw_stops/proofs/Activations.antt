@@ -6,21 +6,20 @@ use Rattle.std.proofs.lemmas.Bool.{le-ltb, lt-leb, true≢false}
 use Rattle.gw_num.specs.Arithmetic.{is_zero}
 use Rattle.gw_num.specs.Operators.{binary_value, unary_value}
 use Rattle.gw_num.specs.Table.{at}
-use Rattle.gw_blocks.specs.declared.parts.Operand.{Operand}
-use Rattle.gw_blocks.specs.declared.parts.Operand.TheVariants as operands
-use Rattle.gw_code.specs.declared.parts.Instruction.{Instruction}
-use Rattle.gw_code.specs.declared.parts.Instruction.TheVariants.{Push, Get, Set, Value, Binary, Unary, Pop, Jump, JumpIfZero, Back, Call, Return}
-use Rattle.gw_code.specs.declared.parts.Procedure.{Procedure}
+use Rattle.gw_object.specs.declared.blocks.Operand.{Operand}
+use Rattle.gw_object.specs.declared.blocks.Operand.TheVariants as operands
+use Rattle.gw_object.specs.declared.code.Instruction.{Instruction}
+use Rattle.gw_object.specs.declared.code.Instruction.TheVariants.{Push, Get, Set, Value, Binary, Unary, Pop, Jump, JumpIfZero, Back, Call, Return}
+use Rattle.gw_object.specs.declared.code.Procedure.{Procedure}
 use Rattle.gw_object.specs.declared.parts.Parts.{Parts}
-use Rattle.gw_operands.specs.declared.ends.PlusEnd.{PlusEnd}
-use Rattle.gw_operands.specs.Sources.{source_of, as_operand, procedure_named}
-use Rattle.gw_operands.specs.Environment.{Environment}
-use Rattle.gw_operands.specs.Values.{Value as Comes, Unset, ◌>>=◌, came_to, if_set, source_value, operand_value, draws_below}
-use Rattle.gw_operands.specs.Results.{value_by_operand}
-use Rattle.gw_operands.specs.Code.{most_values, procedure_at, arguments_of, takes, leaves, called_in, costs_of}
-use Rattle.gw_operands.specs.Meaning.{Frame, Next, Goes, Calls, Returns, Stuck, on, push_value, or_stuck, pop_value, calculate, opening_frame, act}
-use Rattle.gw_operands.specs.Meaning.{next, reads_source, calls_with, Derives}
-use Rattle.gw_operands.specs.Outcome.{Answer, answer_within, outcome_of}
+use Rattle.gw_rules.specs.declared.ends.PlusEnd.{PlusEnd}
+use Rattle.gw_rules.specs.Sources.{source_of, as_operand, procedure_named}
+use Rattle.gw_rules.specs.Environment.{Environment}
+use Rattle.gw_rules.specs.Values.{Value as Comes, Unset, ◌>>=◌, came_to, if_set, source_value, operand_value, draws_below}
+use Rattle.gw_rules.specs.Results.{value_by_operand}
+use Rattle.gw_rules.specs.Code.{most_values, procedure_at, arguments_of, takes, leaves, called_in, costs_of}
+use Rattle.gw_rules.specs.Meaning.{Frame, Next, Goes, Calls, Returns, Stuck, on, push_value, or_stuck, pop_value, calculate, opening_frame, act, next, reads_source, calls_with, Derives}
+use Rattle.gw_rules.specs.Outcome.{Answer, answer_within, outcome_of}
 use Rattle.gw_rules.proofs.Outcomes.{Continues, Unrolled, unroll, one_outcome}
 use Rattle.gw_rules.proofs.Within.{answers_are_derived}
 use Rattle.gw_stops.specs.Activations.{GetsStuck, at_once, later, in_a_call, no_room, after_a_call, ComesTo, StuckActivationsHaveNoOutcome}

@@ -5,15 +5,15 @@ use Rattle.std.proofs.Common.{option_to_list}
 use Rattle.std.specs.Prelude.{int_lt, IfSome}
 use Rattle.std.proofs.lemmas.Bool.{lt-leb, le-leb, false≢true, or_left, or_right, ne_eqb}
 use Rattle.std.proofs.lemmas.Int.{ints}
-use Rattle.gw_blocks.specs.declared.parts.Operand.{Operand}
-use Rattle.gw_blocks.specs.declared.parts.Generate.{Generate}
-use Rattle.gw_blocks.specs.declared.parts.Spread.{Spread}
-use Rattle.gw_blocks.specs.declared.parts.Block.{Block}
-use Rattle.gw_blocks.specs.declared.parts.Block.TheVariants as blocks
+use Rattle.gw_object.specs.declared.blocks.Operand.{Operand}
+use Rattle.gw_object.specs.declared.blocks.Generate.{Generate}
+use Rattle.gw_object.specs.declared.blocks.Spread.{Spread}
+use Rattle.gw_object.specs.declared.blocks.Block.{Block}
+use Rattle.gw_object.specs.declared.blocks.Block.TheVariants as blocks
 use Rattle.gw_object.specs.declared.parts.Parts.{Parts}
-use Rattle.gw_operands.specs.Environment.{Environment}
-use Rattle.gw_operands.specs.Sources.{operand_at, evaluation_operands as evaluated_at}
-use Rattle.gw_operands.specs.Values.{Evaluation, Value, Unset, ◌>>=◌ as ◌then◌, evaluation_of, operand_value, drawn_time, single_value, one_operand, operands}
+use Rattle.gw_rules.specs.Environment.{Environment}
+use Rattle.gw_rules.specs.Sources.{operand_at, evaluation_operands as evaluated_at}
+use Rattle.gw_rules.specs.Values.{Evaluation, Value, Unset, ◌>>=◌ as ◌then◌, evaluation_of, operand_value, drawn_time, single_value, one_operand, operands}
 use Rattle.gw_rules.specs.Kinds.{block_at, is_generate}
 use Rattle.gw_rules.specs.Exits.{leads_to, goes_or_falls}
 use Rattle.gw_num.specs.Table.{at}

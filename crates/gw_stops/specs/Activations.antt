@@ -1,19 +1,19 @@
 -- Where an activation of PLUS code gets stuck, and which operands have no value.
 use Rattle.std.specs.Prelude.{◌≡◌, ◌⊎◌, ℕ, ◌<◌, ◌≤◌, ℤ, List, [], ◌∷◌, length, Some, None, Result, Ok, slice_get}
 use Rattle.gw_num.specs.Table.{at}
-use Rattle.gw_blocks.specs.declared.parts.Operand.{Operand}
-use Rattle.gw_blocks.specs.declared.parts.Operand.TheVariants.{Parameter, Procedure}
-use Rattle.gw_code.specs.declared.parts.Sna.{Sna}
-use Rattle.gw_code.specs.declared.parts.Instruction.{Instruction}
-use Rattle.gw_code.specs.declared.parts.Instruction.TheVariants.{Get, Set, Value, Call}
-use Rattle.gw_code.specs.declared.parts.Procedure.{Procedure as Code}
+use Rattle.gw_object.specs.declared.blocks.Operand.{Operand}
+use Rattle.gw_object.specs.declared.blocks.Operand.TheVariants.{Parameter, Procedure}
+use Rattle.gw_object.specs.declared.code.Sna.{Sna}
+use Rattle.gw_object.specs.declared.code.Instruction.{Instruction}
+use Rattle.gw_object.specs.declared.code.Instruction.TheVariants.{Get, Set, Value, Call}
+use Rattle.gw_object.specs.declared.code.Procedure.{Procedure as Code}
 use Rattle.gw_object.specs.declared.parts.Parts.{Parts}
-use Rattle.gw_operands.specs.Sources.{source_of, as_operand}
-use Rattle.gw_operands.specs.declared.ends.PlusEnd.{PlusEnd}
-use Rattle.gw_operands.specs.Environment.{Environment}
-use Rattle.gw_operands.specs.Values.{Value as Comes, operand_value}
-use Rattle.gw_operands.specs.Code.{most_values, procedure_at, takes, leaves, called_in}
-use Rattle.gw_operands.specs.Meaning.{Frame, Goes, Calls, Stuck, push_value, opening_frame, next, Derives}
+use Rattle.gw_rules.specs.Sources.{source_of, as_operand}
+use Rattle.gw_rules.specs.declared.ends.PlusEnd.{PlusEnd}
+use Rattle.gw_rules.specs.Environment.{Environment}
+use Rattle.gw_rules.specs.Values.{Value as Comes, operand_value}
+use Rattle.gw_rules.specs.Code.{most_values, procedure_at, takes, leaves, called_in}
+use Rattle.gw_rules.specs.Meaning.{Frame, Goes, Calls, Stuck, push_value, opening_frame, next, Derives}
 
 -- STUCK ACTIVATIONS
 

@@ -1,6 +1,6 @@
 -- How the active transaction tries its next block, or its two: as whom, and in which state.
 use Rattle.std.specs.Prelude.{◌≡◌, ℕ, List, Some, None, true}
-use Rattle.gw_blocks.specs.declared.parts.Block.{Block}
+use Rattle.gw_object.specs.declared.blocks.Block.{Block}
 use Rattle.gw_object.specs.declared.parts.Parts.{Parts}
 use Rattle.gw_rules.specs.Kinds.{block_at}
 use Rattle.gw_transactions.specs.declared.Transaction.{Transaction}

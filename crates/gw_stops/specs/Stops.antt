@@ -1,16 +1,16 @@
 -- The error stops: what a job may come to for which the rules have no case, so that it is stuck.
 use Rattle.std.specs.Prelude.{◌≡◌, ℕ, ◌+◌, ◌<◌, ◌≤◌, ℤ, pos, List, [], ◌∷◌, ◌++◌, Some, None, true, false}
-use Rattle.gw_blocks.specs.declared.parts.Operand.{Operand}
-use Rattle.gw_blocks.specs.declared.parts.Generate.{Generate}
-use Rattle.gw_blocks.specs.declared.parts.Units.{Units}
-use Rattle.gw_blocks.specs.declared.parts.Both.{Both}
-use Rattle.gw_blocks.specs.declared.parts.Loop.{Loop}
-use Rattle.gw_blocks.specs.declared.parts.Split.{Split}
-use Rattle.gw_blocks.specs.declared.parts.Unlink.{Unlink}
-use Rattle.gw_blocks.specs.declared.parts.Block.{Block}
-use Rattle.gw_blocks.specs.declared.parts.Block.TheVariants as blocks
-use Rattle.gw_operands.specs.Sources.{evaluation_operands}
-use Rattle.gw_operands.specs.Values.{Value, operand_value, operands}
+use Rattle.gw_object.specs.declared.blocks.Operand.{Operand}
+use Rattle.gw_object.specs.declared.blocks.Generate.{Generate}
+use Rattle.gw_object.specs.declared.blocks.Units.{Units}
+use Rattle.gw_object.specs.declared.blocks.Both.{Both}
+use Rattle.gw_object.specs.declared.blocks.Loop.{Loop}
+use Rattle.gw_object.specs.declared.blocks.Split.{Split}
+use Rattle.gw_object.specs.declared.blocks.Unlink.{Unlink}
+use Rattle.gw_object.specs.declared.blocks.Block.{Block}
+use Rattle.gw_object.specs.declared.blocks.Block.TheVariants as blocks
+use Rattle.gw_rules.specs.Sources.{evaluation_operands}
+use Rattle.gw_rules.specs.Values.{Value, operand_value, operands}
 use Rattle.gw_rules.specs.Kinds.{block_at, is_generate}
 use Rattle.gw_rules.specs.Exits.{leads_to, goes_or_falls}
 use Rattle.gw_num.specs.Table.{at}

@@ -3,7 +3,7 @@ use Rattle.std.proofs.Common.{◌≡◌, ℕ, List, Result, Ok, Err, inl, inr}
 use Rattle.gw_step.specs.Job.{Job}
 use Rattle.gw_answers.specs.declared.answer.NoJob.{NoJob}
 use Rattle.gw_answers.specs.declared.answer.NoJob.TheVariants.{Refused, OutOfMemory}
-use Rattle.gw_model_jobs.specs.ModelJobs.{Finds, OnRefusal, IsJobOf, IsRefusalOf}
+use Rattle.gw_answers.specs.ModelJobs.{Finds, OnRefusal, IsJobOf, IsRefusalOf}
 use Rattle.gw_study.specs.Study.{with_count, IsCountedJob, IsCountRefusal, IsStudyRefusal}
 
 -- what is found of the count is found of the text

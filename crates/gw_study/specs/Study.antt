@@ -6,7 +6,7 @@ use Rattle.gw_scan.specs.Making.{job_from}
 use Rattle.gw_scan.specs.declared.spec.StartFault.TheVariants.{Count}
 use Rattle.gw_answers.specs.Status.{end_status, refusal_status}
 use Rattle.gw_answers.specs.Refusal.{refusal_line, start_refusal}
-use Rattle.gw_model_jobs.specs.ModelJobs.{IsJobOf, IsRefusalOf}
+use Rattle.gw_answers.specs.ModelJobs.{IsJobOf, IsRefusalOf}
 use Rattle.gw_figures.specs.Labels.{Label, labels, labels_of}
 use Rattle.gw_figures.specs.declared.run.Run.{Run}
 use Rattle.gw_study.specs.declared.request.StudyRequest.{StudyRequest}

@@ -4,10 +4,9 @@ ghost use Rattle.std.specs.Prelude.{◌≡◌, ◌≤◌, ◌+◌, ◌-◌, ◌^
 ghost use Rattle.gw_figures.specs.Trends as trends;
 ghost use Rattle.gw_study.specs.Streams as model;
 
-use gw_blocks::Block;
 use gw_figures::{Overdraw, Run};
 use gw_notes::{draws, draws_at};
-use gw_object::{Entity, Memory, Parts};
+use gw_object::{Block, Entity, Memory, Parts};
 use gw_report::text::{put, put_number};
 use std::alloc::Global;
 

@@ -1,7 +1,7 @@
 //! A study of a model text.
 
 ghost use Rattle.std.specs.Prelude.{◌≡◌, ◌≤◌, ◌^◌, vec_len, IfOk};
-ghost use Rattle.gw_model_jobs.specs.ModelJobs.{IsJobOf, Finds};
+ghost use Rattle.gw_answers.specs.ModelJobs.{IsJobOf, Finds};
 ghost use Rattle.gw_answers.specs.Status.{end_status};
 ghost use Rattle.gw_study.specs.Requests.{MayBeStudied};
 ghost use Rattle.gw_study.specs.Study.{with_count as counted_of, AreResultsBetween, AreResultsOf, IsTextOfResults, IsCountedJob, IsCountRefusal, IsStudyRefusal, IsStudy, IsTold};
@@ -11,9 +11,8 @@ use crate::runs::{Setup, runs_in_order, runs_of};
 use crate::streams::put_streams;
 use crate::telling::{Results, table};
 use gw_answers::status::ENDED;
-use gw_answers::{Answer, BUDGET, NoJob, Refusal, answer_refusal};
+use gw_answers::{Answer, BUDGET, NoJob, Refusal, answer_refusal, spec_of_text};
 use gw_figures::figures;
-use gw_model_jobs::spec_of_text;
 use gw_object::Memory;
 use gw_scan::{Spec, StartFault};
 use std::alloc::Global;

@@ -5,7 +5,7 @@ use Rattle.gw_step.specs.State.{State}
 use Rattle.gw_step.specs.Job.{Job, Progress, Alone, after, start_of}
 use Rattle.gw_answers.specs.declared.answer.Answer.{Answer}
 use Rattle.gw_answers.specs.Status.{end_status}
-use Rattle.gw_model_jobs.specs.Running.{IsOver}
+use Rattle.gw_answers.specs.Running.{IsOver}
 use Rattle.gw_trace.specs.declared.sight.Sight.{Sight}
 use Rattle.gw_trace.specs.declared.tracing.Window.{Window}
 use Rattle.gw_trace.specs.Sights.{sight_of}

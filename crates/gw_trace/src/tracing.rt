@@ -3,15 +3,14 @@
 ghost use Rattle.std.specs.Prelude.{◌≡◌, OnOk, IfOk, None, Some};
 ghost use Rattle.gw_report.specs.Report.{Puts};
 ghost use Rattle.gw_step.specs.Job.{Alone, IsReached, Step, start_of};
-ghost use Rattle.gw_model_jobs.specs.ModelJobs.{AnswersModel};
-ghost use Rattle.gw_model_jobs.specs.Running.{IsOver};
+ghost use Rattle.gw_answers.specs.ModelJobs.{AnswersModel};
+ghost use Rattle.gw_answers.specs.Running.{IsOver};
 ghost use Rattle.gw_trace.specs.Trace.{sight_line, window_line, heading, AnswersTrace, HasTraced, IsTrace};
 
 use crate::line::put_line;
 use crate::sight::Sight;
 use gw_answers::status::ENDED;
-use gw_answers::{Answer, BUDGET, NoJob, answer_refusal};
-use gw_model_jobs::{Time, is_over, spec_of_text};
+use gw_answers::{Answer, BUDGET, NoJob, Time, answer_refusal, is_over, spec_of_text};
 use gw_object::Memory;
 use gw_report::text::put;
 use gw_scan::{Sim, Spec};

@@ -5,8 +5,7 @@ ghost use Rattle.gw_rules.specs.Flow.{MayFind};
 ghost use Rattle.gw_rules.specs.Checks.{Finds};
 ghost use Rattle.gw_rules.specs.Pass.{KindsPass};
 ghost use Rattle.gw_rules.specs.PlusChecks.{PlusPasses};
-ghost use Rattle.gw_rules.specs.Accepted.{Accepted, first_checks, checks, all_checks};
-ghost use Rattle.gw_rules.specs.Accepted.{IsRefusedFor, TellsFirst};
+ghost use Rattle.gw_rules.specs.Accepted.{Accepted, IsRefusedFor, TellsFirst, all_checks, checks, first_checks};
 
 use gw_code_flow::check_plus;
 use gw_flow::check_flow;

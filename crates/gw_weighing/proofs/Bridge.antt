@@ -6,8 +6,8 @@ use Rattle.std.specs.Option.{option_flatten, option_to_list}
 use Rattle.std.proofs.lemmas.Bool.{cases_lt, ltb-true, lt-ltb, and_parts, false≢true}
 use Rattle.std.proofs.lemmas.Option.{slice_get_past}
 use Rattle.std.proofs.lemmas.List.Elements.{All-nil, All-cons, All-head, All-tail, All-append}
-use Rattle.gw_blocks.specs.declared.parts.Block.{Block}
-use Rattle.gw_blocks.specs.declared.parts.Block.TheVariants as blocks
+use Rattle.gw_object.specs.declared.blocks.Block.{Block}
+use Rattle.gw_object.specs.declared.blocks.Block.TheVariants as blocks
 use Rattle.gw_object.specs.Entities.{chains_in}
 use Rattle.gw_object.specs.declared.parts.ReturnRow.{ReturnRow}
 use Rattle.gw_object.specs.declared.parts.TableState.{TableState}

@@ -21,8 +21,8 @@ use Rattle.gw_rules.specs.Weights.{weight_at as weight_of_block, slope_at}
 use Rattle.gw_rules.specs.WeightsLaws.{Covers, PaysTo, PaysExit}
 use Rattle.gw_rules.specs.declared.ways.Way.{Way}
 use Rattle.gw_rules.specs.declared.ways.Way.TheVariants.{Goes}
-use Rattle.gw_blocks.specs.declared.parts.Block.{Block}
-use Rattle.gw_blocks.specs.declared.parts.Block.TheVariants as blocks
+use Rattle.gw_object.specs.declared.blocks.Block.{Block}
+use Rattle.gw_object.specs.declared.blocks.Block.TheVariants as blocks
 use Rattle.gw_weights.proofs.Reading.{kind_read}
 use Rattle.gw_least_weights.specs.Rules.{IsWeight, weight_at, of_sum, nothing}
 use Rattle.gw_weighing.specs.Layout.{layout_of, of_row}

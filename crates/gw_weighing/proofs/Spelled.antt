@@ -4,8 +4,8 @@ use Rattle.std.specs.List.{flat_map, zip}
 use Rattle.std.specs.Int.{w32, to_be_bytes}
 use Rattle.gw_object.specs.declared.parts.Parts.{Parts}
 use Rattle.gw_fields.specs.Fields.{plain, list_of}
-use Rattle.gw_code.specs.Grammar.{procedure}
-use Rattle.gw_blocks.specs.Grammar.{block}
+use Rattle.gw_object.specs.CodeGrammar.{procedure}
+use Rattle.gw_object.specs.BlockGrammar.{block}
 use Rattle.gw_object.specs.Entities.{entity, chains_in}
 use Rattle.gw_object.specs.Limits.{most_seeds, most_entities, most_procedures, most_blocks, most_return_rows}
 use Rattle.gw_object.specs.Grammar.{HasSpelling, spelling, object, tables, head, seed, start_count, return_row, rows, slope, sloped_weight}

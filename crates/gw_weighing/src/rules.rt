@@ -1,16 +1,15 @@
 //! The rules of weights of an object, as rules at places.
 
 ghost use Rattle.std.specs.Prelude.{◌≡◌, ◌<◌, ◌≤◌, IfOk, option_map, option_to_list, length};
-ghost use Rattle.gw_blocks.specs.declared.parts.Block.TheVariants as blocks;
+ghost use Rattle.gw_object.specs.declared.blocks.Block.TheVariants as blocks;
 ghost use Rattle.gw_weighing.specs.Certificates.{IsCounted};
 ghost use Rattle.gw_weighing.specs.Rules as model;
 ghost use Rattle.gw_weighing.specs.Rules.{AddsRules};
 
 use crate::layout::Layout;
 use crate::sums::{first_sum, second_sum};
-use gw_blocks::{Block, Unlink};
 use gw_least_weights::{Rule, nothing, once};
-use gw_object::{Memory, Parts, TableState};
+use gw_object::{Block, Memory, Parts, TableState, Unlink};
 use gw_rules::chain_row;
 use std::alloc::Global;
 

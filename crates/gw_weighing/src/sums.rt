@@ -4,9 +4,8 @@ ghost use Rattle.std.specs.Prelude.{◌≡◌, ◌≤◌};
 ghost use Rattle.gw_weighing.specs.Sums as model;
 
 use crate::layout::Layout;
-use gw_blocks::Block;
 use gw_least_weights::{Sum, Term, nothing};
-use gw_object::{GREATEST_WEIGHT, Parts, Slope, TableKind, TableState};
+use gw_object::{Block, GREATEST_WEIGHT, Parts, Slope, TableKind, TableState};
 use gw_rules::{Exit, Treatment, Way, Who, above, exits, leads_to, slope_at, treats};
 use gw_weights::{goes_at_once, parameter_of};
 

@@ -4,8 +4,7 @@ ghost use Rattle.std.specs.Prelude.{◌≡◌};
 ghost use Rattle.gw_rules.specs.Checks.{Finds};
 ghost use Rattle.gw_rules.specs.Weights as model;
 
-use gw_blocks::{Block, Generate};
-use gw_object::{Fault, Place};
+use gw_object::{Block, Fault, Generate, Place};
 use gw_rules::weights_codes::ARRIVAL_WEIGHT;
 use gw_rules::{check, takes_time};
 

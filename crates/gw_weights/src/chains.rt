@@ -1,12 +1,11 @@
 //! What user chains need: that a LINK pays for its chain, a chain for where an UNLINK sends its members, and that there is no
 //! slope there.
 
-ghost use Rattle.gw_blocks.specs.declared.parts.Block.TheVariants as blocks;
+ghost use Rattle.gw_object.specs.declared.blocks.Block.TheVariants as blocks;
 ghost use Rattle.gw_rules.specs.Checks.{Finds};
 ghost use Rattle.gw_rules.specs.Weights as model;
 
-use gw_blocks::{Block, Link, Unlink};
-use gw_object::{Fault, Parts, Place};
+use gw_object::{Block, Fault, Link, Parts, Place, Unlink};
 use gw_rules::weights_codes::CHAIN_WEIGHT;
 use gw_rules::{chain_row, chain_weight, check, slope_at, weight_at};
 

@@ -12,8 +12,7 @@ use crate::chains::check_chain;
 use crate::exits::{check_exits, check_returns};
 use crate::returns::blocks_read;
 use crate::slopes::check_slope_in;
-use gw_blocks::Block;
-use gw_object::{Fault, Object, Parts, TableState};
+use gw_object::{Block, Fault, Object, Parts, TableState};
 use gw_rules::exits;
 
 /// The row of the state table of the block of this number, from 1, if it has one (ours: docs/object-format.md).

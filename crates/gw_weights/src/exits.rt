@@ -6,8 +6,7 @@ ghost use Rattle.gw_rules.specs.Exits.{returns_to as exit_after};
 ghost use Rattle.gw_rules.specs.Weights as model;
 
 use crate::paying::pays_way;
-use gw_blocks::Block;
-use gw_object::{Fault, Parts, Place};
+use gw_object::{Block, Fault, Parts, Place};
 use gw_rules::weights_codes::WEIGHT_EDGE;
 use gw_rules::{Exit, check, is_used, leads_to, returns_to};
 

@@ -4,8 +4,7 @@ ghost use Rattle.std.specs.Prelude.{◌≡◌, ◌≤◌};
 ghost use Rattle.gw_rules.specs.Weights as model;
 ghost use Rattle.gw_rules.specs.declared.ways.Who.TheVariants.{Itself};
 
-use gw_blocks::Block;
-use gw_object::{Parts, Slope};
+use gw_object::{Block, Parts, Slope};
 use gw_rules::{Treatment, Way, Who, above, leads_to, slope_at, treats, weight_at};
 
 /// How steep a slope is; without one it is flat.

@@ -14,7 +14,7 @@ use Rattle.gw_console.proofs.Outputs.{IsEnd, Ends, assembly_status, request_ends
 use Rattle.gw_source_lines.specs.Sites.{no_sites, is_object}
 use Rattle.gw_explain.specs.Explanation.{Begins, IsAdvised, IsExplainedModel, IsExplainedText}
 use Rattle.gw_listing.specs.Listing.{IsListingOf, TellsRefusal, IsListedModel, IsListedText}
-use Rattle.gw_model_jobs.specs.ModelJobs.{AnswersModel}
+use Rattle.gw_answers.specs.ModelJobs.{AnswersModel}
 use Rattle.gw_trace.specs.Trace.{IsTrace}
 use Rattle.gw_chart.specs.Charts.{IsChart, IsSheet}
 use Rattle.gw_study.specs.Study.{IsStudy}

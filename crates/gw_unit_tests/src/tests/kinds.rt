@@ -1,6 +1,6 @@
 //! Kinds: what blocks lead to, and which take time.
 
-use gw_blocks::{Block, Fraction, Generate, Operand, Spread};
+use gw_object::{Block, Fraction, Generate, Operand, Spread};
 use gw_rules::{Way, exits, leads_to, takes_time};
 use gw_samples::first_wrong;
 

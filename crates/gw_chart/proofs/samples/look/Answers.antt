@@ -1,7 +1,7 @@
 use Rattle.std.proofs.Common.{sym, subst}
 use Rattle.gw_step.specs.Job.{Job}
-use Rattle.gw_model_jobs.specs.Running.{AreStillAt}
-use Rattle.gw_model_jobs.proofs.Lasting.{still_on}
+use Rattle.gw_answers.specs.Running.{AreStillAt}
+use Rattle.gw_answers.proofs.Lasting.{still_on}
 use Rattle.gw_chart.specs.Samples.{AreBands}
 use Rattle.gw_chart.proofs.Banding.{looked_first, looked_over, looked_still}
 use Rattle.gw_chart.proofs.samples.look.Goals as goal

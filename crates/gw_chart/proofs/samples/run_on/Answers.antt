@@ -1,6 +1,6 @@
 use Rattle.std.proofs.Common.{ℤ, subst}
 use Rattle.std.specs.Prelude.{OnOk}
-use Rattle.gw_model_jobs.specs.Running.{AreStillAt}
+use Rattle.gw_answers.specs.Running.{AreStillAt}
 use Rattle.gw_chart.proofs.samples.run_on.Goals as goal
 
 pub returns-clause-still : goal.returns-clause-still

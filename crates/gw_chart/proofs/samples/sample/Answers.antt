@@ -1,7 +1,7 @@
 use Rattle.std.proofs.Common.{◌≡◌}
 use Rattle.std.proofs.lemmas.Result.{IfOk-weaker}
-use Rattle.gw_model_jobs.specs.Running.{AreStillAt}
-use Rattle.gw_model_jobs.proofs.Lasting.{still_on}
+use Rattle.gw_answers.specs.Running.{AreStillAt}
+use Rattle.gw_answers.proofs.Lasting.{still_on}
 use Rattle.gw_chart.specs.Contents.{contents_from}
 use Rattle.gw_chart.specs.Samples.{StoodAt}
 use Rattle.gw_chart.proofs.Looking.{stood_here, on_any}

@@ -1,5 +1,5 @@
 use Rattle.std.proofs.Common.{◌≡◌, ◌<◌, ◌+◌, ℕ, [], length, get_or}
-use Rattle.gw_model_jobs.specs.Running.{AreStillAt}
+use Rattle.gw_answers.specs.Running.{AreStillAt}
 use Rattle.gw_chart.specs.Windows.{moment}
 use Rattle.gw_chart.specs.Samples.{StoodAt, AreBands}
 use Rattle.gw_chart.proofs.samples.take_samples.Given as goal

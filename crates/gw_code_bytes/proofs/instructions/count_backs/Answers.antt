@@ -1,5 +1,5 @@
 use Rattle.std.proofs.Common.{rules}
-use Rattle.gw_code.proofs.Backs.{backs_counted}
+use Rattle.gw_object.proofs.Backs.{backs_counted}
 use Rattle.gw_code_bytes.proofs.instructions.count_backs.Goals as goal
 
 pub returns : goal.returns

@@ -1,5 +1,5 @@
 use Rattle.std.proofs.Common.{refl, ap, ◌∙◌, List, Some, [], ◌∷◌}
-use Rattle.gw_code.specs.declared.parts.Instruction.{Instruction}
+use Rattle.gw_object.specs.declared.code.Instruction.{Instruction}
 use Rattle.gw_rules.specs.Checks.{first_broken}
 use Rattle.gw_rules.specs.PlusChecks.{code_checks}
 use Rattle.gw_code_flow.proofs.KnownHeights.{from_table}

@@ -1,6 +1,6 @@
 use Rattle.std.proofs.Common.{◌≡◌, suc, false, List, [], ◌∷◌, length, not, refl, ◌==◌, ap, ◌∙◌, arith}
 use Rattle.std.proofs.lemmas.Bool.Decides.{nat_tests}
-use Rattle.gw_code.specs.declared.parts.Instruction.{Instruction}
+use Rattle.gw_object.specs.declared.code.Instruction.{Instruction}
 use Rattle.gw_rules.specs.PlusChecks.{has_code}
 use Rattle.gw_code_flow.proofs.check.has_code.Goals as goal
 

@@ -1,5 +1,5 @@
 use Rattle.std.proofs.Common.{◌≡◌, drop, ◌+◌, ◌*◌, ◌≤◌, ◌^◌}
-use Rattle.gw_operands.specs.Code.{cost_of_body, turns_of}
+use Rattle.gw_rules.specs.Code.{cost_of_body, turns_of}
 use Rattle.gw_code_flow.proofs.costs.cost_of_code.Given as goal
 
 -- the sums so far, and those of the instructions that are left, are those of all

@@ -2,7 +2,7 @@ use Rattle.std.proofs.Common.{◌≡◌, ℕ, List, [], ◌∷◌, refl, ap, ◌
 use Rattle.std.proofs.lemmas.Bool.Decides.{nat_tests}
 use Rattle.std.specs.Prelude.{◌||◌}
 use Rattle.std.specs.List.{list_any}
-use Rattle.gw_operands.specs.Code.{is_among}
+use Rattle.gw_rules.specs.Code.{is_among}
 use Rattle.gw_code_flow.proofs.parameters.is_among.Goals as goal
 
 eq_other : (a b : ℕ) → (a == b) ≡ (b == a)

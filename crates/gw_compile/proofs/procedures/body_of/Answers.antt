@@ -1,6 +1,6 @@
 use Rattle.std.proofs.Common.{rules, ◌<◌, Bool, Err, None, length, arith, map}
 use Rattle.std.specs.Prelude.{string_bytes}
-use Rattle.gw_code.specs.Limits.{most_locals}
+use Rattle.gw_object.specs.Limits.{most_locals}
 use Rattle.gw_compile.specs.Statements.{body_of}
 use Rattle.gw_compile.specs.Unknown.{Judges}
 use Rattle.gw_compile.proofs.Writing.{grows, limit_alone}

@@ -1,6 +1,6 @@
 use Rattle.std.proofs.Common.{rules, ◌≡◌, [], None, length, ◌≤◌, ap, ◌∙◌, arith}
-use Rattle.gw_code.specs.Limits.{most_instructions, most_backs, most_locals}
-use Rattle.gw_code.specs.Grammar.{backs}
+use Rattle.gw_object.specs.Limits.{most_instructions, most_backs, most_locals}
+use Rattle.gw_object.specs.CodeGrammar.{backs}
 use Rattle.gw_compile.specs.Code.{procedure_code}
 use Rattle.gw_compile.specs.Unknown.{first_blame}
 use Rattle.gw_compile.proofs.Backs.{none_in_procedure}

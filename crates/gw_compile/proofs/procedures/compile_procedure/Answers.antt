@@ -1,6 +1,6 @@
 use Rattle.std.proofs.Common.{rules, ◌≡◌, ◌≤◌, None, length}
-use Rattle.gw_code.specs.Limits.{most_instructions, most_backs, most_locals}
-use Rattle.gw_code.specs.Grammar.{backs}
+use Rattle.gw_object.specs.Limits.{most_instructions, most_backs, most_locals}
+use Rattle.gw_object.specs.CodeGrammar.{backs}
 use Rattle.gw_compile.specs.Statements.{body_of, body_code}
 use Rattle.gw_compile.proofs.Reached.{values_kept}
 use Rattle.gw_compile.proofs.procedures.compile_procedure.Goals as goal

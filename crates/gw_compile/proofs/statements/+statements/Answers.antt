@@ -2,11 +2,11 @@ use Rattle.std.specs.Prelude.{slice_set}
 use Rattle.std.proofs.Common.{rules, ℕ, if◌then◌else◌, Bool, Err, None, suc, drop, ◌≡◌, ◌++◌, ◌∷◌, [], ◌||◌, ◌<◌, IfOk, length, true, Some, subst, ap, sym, ◌∙◌}
 use Rattle.std.proofs.Math.Seq.{drop-cons}
 use Rattle.gw_text_plus.specs.declared.model.PlusStatement.{If}
-use Rattle.gw_code.specs.Limits.{most_locals}
+use Rattle.gw_object.specs.Limits.{most_locals}
 use Rattle.gw_compile.specs.Numbers.{Numbers}
 use Rattle.gw_compile.specs.Unknown.{Judges}
 use Rattle.gw_compile.specs.Scope.{scope_of}
-use Rattle.gw_code.specs.declared.parts.Instruction.TheVariants.{Back, Jump}
+use Rattle.gw_object.specs.declared.code.Instruction.TheVariants.{Back, Jump}
 use Rattle.gw_compile.specs.Statements.{target, turns, when, IsWritten, piece, sequence, if_with_else}
 use Rattle.gw_compile.proofs.Writing.{if_is_written, while_is_written, if_else_is_written, block_is, if_with_else_is, judged_in_first}
 use Rattle.gw_compile.proofs.Writing.{judged_in_second, judged_in_sequence, Leads}

@@ -2,10 +2,9 @@ use Rattle.std.proofs.Common.{rules, ◌≡◌, ◌<◌, ◌++◌, sym, subst}
 use Rattle.std.specs.Prelude.{All, AllPairs}
 use Rattle.std.proofs.lemmas.Result.{IfOk-weaker}
 use Rattle.gw_rules.specs.declared.set_parameters.Parameter.{Parameter}
-use Rattle.gw_rules.specs.Blocks.{FlowEdge}
+use Rattle.gw_rules.specs.Blocks.{FlowEdge, parameter_set, edges_from, joins}
 use Rattle.gw_flow.specs.Known.{params_of, known_row}
 use Rattle.gw_flow.specs.Answered.{SayTheSame, parameters_with}
-use Rattle.gw_rules.specs.Blocks.{parameter_set, edges_from, joins}
 use Rattle.gw_flow.proofs.Own.{own_at_edges, with_ascends}
 use Rattle.gw_flow.proofs.flow.own_edges.Goals as goal
 

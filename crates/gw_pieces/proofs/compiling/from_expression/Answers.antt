@@ -1,6 +1,6 @@
 use Rattle.std.proofs.Common.{◌<◌, ◌⊎◌, [], length, inr, sym, subst}
-use Rattle.gw_code.specs.declared.parts.Procedure.{Procedure}
-use Rattle.gw_code.specs.Limits.{most_instructions}
+use Rattle.gw_object.specs.declared.code.Procedure.{Procedure}
+use Rattle.gw_object.specs.Limits.{most_instructions}
 use Rattle.gw_compile.specs.Code.{procedure_code}
 use Rattle.gw_compile.specs.Unknown.{first_blame}
 use Rattle.gw_names.specs.Numbers.{numbers_of}

@@ -2,7 +2,7 @@ use Rattle.std.proofs.Common.{rules, ◌≡◌, subst, arith, w64, Err}
 use Rattle.std.proofs.lemmas.Int.{to_z-of_z}
 use Rattle.std.proofs.lemmas.Option.{slice_get_within}
 use mir.Val.{SFits}
-use Rattle.gw_operands.specs.Meaning.{Derives}
+use Rattle.gw_rules.specs.Meaning.{Derives}
 use Rattle.gw_plus.specs.Activation.{frame_of, first_frame}
 use Rattle.gw_plus.specs.Reading.{environment_of}
 use Rattle.gw_plus.proofs.Calls.{procedure_read}

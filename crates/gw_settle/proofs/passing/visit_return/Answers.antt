@@ -1,5 +1,5 @@
 use Rattle.std.proofs.Common.{sym, subst}
-use Rattle.gw_blocks.specs.declared.parts.Block.TheVariants as blocks
+use Rattle.gw_object.specs.declared.blocks.Block.TheVariants as blocks
 use Rattle.gw_settle.specs.Versions.{SendsBehind}
 use Rattle.gw_settle.proofs.Sharing.{return_is}
 use Rattle.gw_settle.proofs.passing.visit_return.Goals as goal

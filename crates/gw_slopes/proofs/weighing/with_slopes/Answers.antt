@@ -1,6 +1,6 @@
 use Rattle.std.proofs.Common.{◌≡◌, ◌+◌, sym, ap, ◌∙◌, subst, inl, inr}
 use Rattle.std.proofs.lemmas.Result.{IfOk-weaker, IfErr-weaker}
-use Rattle.gw_blocks.specs.Limits.{most_parameters}
+use Rattle.gw_object.specs.Limits.{most_parameters}
 use Rattle.gw_object.specs.Grammar.{HasSpelling}
 use Rattle.gw_object.specs.declared.parts.Parts.{Parts}
 use Rattle.gw_rules.proofs.KindsHold.{kinds_pass_at_each_place}

@@ -1,7 +1,7 @@
 use Rattle.std.proofs.Common.{rules, ◌≡◌, ◌+◌, Some, [], subst, arith}
 use Rattle.gw_num.specs.Table.{at}
 use Rattle.gw_machine.specs.View.{state_of}
-use Rattle.gw_blocks.specs.declared.parts.Block.TheVariants as blocks
+use Rattle.gw_object.specs.declared.blocks.Block.TheVariants as blocks
 use Rattle.gw_rules.specs.Kinds.{block_at}
 use Rattle.gw_step.specs.Blocks.{units_asked, looked_at}
 use Rattle.gw_step.proofs.Follows.{asked-enter, block_below}

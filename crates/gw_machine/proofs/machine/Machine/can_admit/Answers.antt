@@ -2,7 +2,7 @@ use Rattle.std.proofs.Common.{rules, ◌≡◌, ◌∙◌, ℕ, Some, List, [], 
 use Rattle.std.specs.List.{AllByRecursion}
 use Rattle.gw_num.specs.Table.{at}
 use Rattle.gw_members.specs.declared.tx.Member.{Member}
-use Rattle.gw_blocks.specs.declared.parts.Block.{Block}
+use Rattle.gw_object.specs.declared.blocks.Block.{Block}
 use Rattle.gw_transactions.specs.declared.Transaction.{Transaction}
 use Rattle.gw_transactions.specs.Transactions.{Population, attributes_at}
 use Rattle.gw_step.specs.Blocks.{admission}

@@ -1,7 +1,7 @@
 use Rattle.std.proofs.Common.{◌+◌, List, None, pos, length, get_or, sym, ap, ◌∙◌, subst, arith}
-use Rattle.gw_blocks.specs.declared.parts.Operand.TheVariants.{Constant}
-use Rattle.gw_blocks.specs.declared.parts.Block.{Block}
-use Rattle.gw_blocks.specs.declared.parts.Block.TheVariants as blocks
+use Rattle.gw_object.specs.declared.blocks.Operand.TheVariants.{Constant}
+use Rattle.gw_object.specs.declared.blocks.Block.{Block}
+use Rattle.gw_object.specs.declared.blocks.Block.TheVariants as blocks
 use Rattle.gw_step.specs.Start.{first_arrival}
 use Rattle.gw_machine.specs.View.{state_of}
 use Rattle.gw_machine.specs.declared.entity_tables.EntityTables.{EntityTables}

@@ -1,6 +1,6 @@
 use Rattle.std.proofs.Common.{rules, ◌≡◌, ℕ, Option, Some, None, true, [], refl, subst, arith}
 use Rattle.gw_num.specs.Table.{at}
-use Rattle.gw_blocks.specs.declared.parts.Block.{Block}
+use Rattle.gw_object.specs.declared.blocks.Block.{Block}
 use Rattle.gw_rules.specs.Kinds.{block_at}
 use Rattle.gw_transactions.specs.Transactions.{Holds}
 use Rattle.gw_step.specs.Blocks.{is_seize}

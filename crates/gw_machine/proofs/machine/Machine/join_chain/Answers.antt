@@ -1,4 +1,4 @@
-use Rattle.gw_blocks.specs.declared.parts.LinkOrder.TheVariants.{Fifo, Lifo}
+use Rattle.gw_object.specs.declared.blocks.LinkOrder.TheVariants.{Fifo, Lifo}
 use Rattle.gw_machine.proofs.AtChains.{joins, linked-joins}
 use Rattle.gw_machine.specs.Shown.{configuration_of}
 use Rattle.gw_machine.proofs.Knowing.{known-nexts, chained-next}

@@ -1,8 +1,8 @@
 use Rattle.std.proofs.Common.{◌∙◌, ap, subst}
 use Rattle.gw_rules.specs.KindsLaws.{OperandHolds}
-use Rattle.gw_operands.specs.Code.{asked_by_source}
+use Rattle.gw_rules.specs.Code.{asked_by_source}
 use Rattle.gw_rules.specs.PlusLaws.{HasSet}
-use Rattle.gw_operands.specs.Values.{source_value}
+use Rattle.gw_rules.specs.Values.{source_value}
 use Rattle.gw_plus.specs.Reading as lent
 use Rattle.gw_machine.specs.View.{state_of}
 use Rattle.gw_machine.specs.Evaluating.{environment_for}

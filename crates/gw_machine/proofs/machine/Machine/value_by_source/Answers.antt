@@ -1,11 +1,11 @@
 use Rattle.std.proofs.Common.{◌≡◌, ◌∙◌, subst, sym}
-use Rattle.gw_blocks.specs.Grammar.{OperandFits}
+use Rattle.gw_object.specs.BlockGrammar.{OperandFits}
 use Rattle.gw_object.specs.Grammar.{HasSpelling}
 use Rattle.gw_rules.proofs.Sources.{source_holds}
-use Rattle.gw_operands.specs.Sources.{source_of}
+use Rattle.gw_rules.specs.Sources.{source_of}
 use Rattle.gw_rules.specs.KindsLaws.{OperandHolds}
 use Rattle.gw_rules.proofs.PlusTheorems.{code_holds}
-use Rattle.gw_operands.specs.Code.{asked_by_source}
+use Rattle.gw_rules.specs.Code.{asked_by_source}
 use Rattle.gw_rules.specs.PlusLaws.{HasSet}
 use Rattle.gw_rules.proofs.AllPass.{kinds_pass}
 use Rattle.gw_machine.specs.View.{state_of}

@@ -1,7 +1,7 @@
 use Rattle.std.proofs.Common.{◌≡◌, ◌≤◌, ◌-◌, Some, length, take, drop, refl, ◌∙◌, arith, length-drop}
 use Rattle.std.proofs.lemmas.List.{take_all}
-use Rattle.gw_code.specs.Grammar.{ProcedureFits}
-use Rattle.gw_operands.specs.Code.{procedure_at}
+use Rattle.gw_object.specs.CodeGrammar.{ProcedureFits}
+use Rattle.gw_rules.specs.Code.{procedure_at}
 use Rattle.gw_plus.specs.Activation.{frame_of}
 use Rattle.gw_plus.proofs.Calls.{procedure_read, call_within, has_arguments, did_call}
 use Rattle.gw_plus.proofs.activation.Activation.call.Goals as goal

@@ -1,6 +1,6 @@
 use Rattle.std.proofs.Common.{◌≡◌, Some}
-use Rattle.gw_operands.specs.Code.{procedure_at}
-use Rattle.gw_operands.specs.Meaning.{on}
+use Rattle.gw_rules.specs.Code.{procedure_at}
+use Rattle.gw_rules.specs.Meaning.{on}
 use Rattle.gw_plus.specs.Activation.{frame_of}
 use Rattle.gw_plus.proofs.Calls.{procedure_read, did_call_alone}
 use Rattle.gw_plus.proofs.activation.Activation.call_alone.Goals as goal

@@ -1,8 +1,8 @@
 use Rattle.std.proofs.Common.{rules, w64}
 use Rattle.std.proofs.lemmas.Int.{to_z-of_z}
 use mir.Val.{SFits}
-use Rattle.gw_code.specs.declared.parts.Instruction.TheVariants.{Push, Get, Set, Binary, Unary, Pop, JumpIfZero}
-use Rattle.gw_operands.specs.Meaning.{act}
+use Rattle.gw_object.specs.declared.code.Instruction.TheVariants.{Push, Get, Set, Binary, Unary, Pop, JumpIfZero}
+use Rattle.gw_rules.specs.Meaning.{act}
 use Rattle.gw_plus.proofs.activation.Activation.step.Goals as goal
 
 pub returns-in-Push : goal.returns-in-Push

@@ -1,12 +1,12 @@
 use Rattle.std.proofs.Common.{rules, ◌≡◌, Some, sym, ap, ◌∙◌, subst, w64}
 use Rattle.std.proofs.lemmas.Int.{to_z-of_z}
 use mir.Val.{SFits}
-use Rattle.gw_blocks.specs.declared.parts.Operand.{Operand}
-use Rattle.gw_code.specs.declared.parts.Instruction.TheVariants.{Value}
-use Rattle.gw_operands.specs.Sources.{source_of, as_operand}
-use Rattle.gw_operands.specs.Environment.{kept_value}
-use Rattle.gw_operands.specs.Results.{value_by_operand}
-use Rattle.gw_operands.specs.Meaning.{on, push_value}
+use Rattle.gw_object.specs.declared.blocks.Operand.{Operand}
+use Rattle.gw_object.specs.declared.code.Instruction.TheVariants.{Value}
+use Rattle.gw_rules.specs.Sources.{source_of, as_operand}
+use Rattle.gw_rules.specs.Environment.{kept_value}
+use Rattle.gw_rules.specs.Results.{value_by_operand}
+use Rattle.gw_rules.specs.Meaning.{on, push_value}
 use Rattle.gw_rules.proofs.PlusReading.{source_is_good}
 use Rattle.gw_plus.specs.Activation.{frame_of, Did}
 use Rattle.gw_plus.specs.Reading.{environment_of, MayReadKept}

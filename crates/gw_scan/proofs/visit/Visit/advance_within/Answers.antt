@@ -1,5 +1,5 @@
 use Rattle.std.proofs.Common.{rules, ◌≡◌, ℕ, ℤ, List, ◌∙◌, refl}
-use Rattle.gw_operands.specs.Values.{with_first}
+use Rattle.gw_rules.specs.Values.{with_first}
 use Rattle.gw_step.specs.Outcome.{Gives, EndsBy}
 use Rattle.gw_step.specs.Times.{environment_of}
 use Rattle.gw_machine.specs.Spans.{spread_of}

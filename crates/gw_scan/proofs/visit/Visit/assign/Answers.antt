@@ -1,5 +1,5 @@
 use Rattle.std.proofs.Common.{rules, [], ◌≡◌, ◌∙◌}
-use Rattle.gw_operands.specs.Values.{Value, operand_value}
+use Rattle.gw_rules.specs.Values.{Value, operand_value}
 use Rattle.gw_step.specs.Outcome.{Gives}
 use Rattle.gw_step.specs.Blocks.{assign, then_placed}
 use Rattle.gw_machine.specs.View.{state_of}

@@ -1,5 +1,5 @@
 use Rattle.std.proofs.Common.{◌≡◌, ◌∙◌, List, Bool, true, false, None, refl, sym, subst, ap}
-use Rattle.gw_blocks.specs.declared.parts.Block.{Block}
+use Rattle.gw_object.specs.declared.blocks.Block.{Block}
 use Rattle.gw_rules.specs.Kinds.{block_at}
 use Rattle.gw_machine.specs.View.{state_of}
 use Rattle.gw_scan.proofs.Origins.{decoded_there}

@@ -1,5 +1,5 @@
 use Rattle.std.proofs.Common.{rules, [], ◌≡◌, sym, subst}
-use Rattle.gw_operands.specs.Values.{Value, operand_value}
+use Rattle.gw_rules.specs.Values.{Value, operand_value}
 use Rattle.gw_step.specs.Outcome.{Outcome}
 use Rattle.gw_step.specs.State.{State, with_streams}
 use Rattle.gw_step.specs.Blocks.{plus, then_placed}

@@ -1,6 +1,6 @@
 use Rattle.std.proofs.Common.{rules, ◌≡◌, Some, subst}
 use Rattle.std.specs.Prelude.{IfSome}
-use Rattle.gw_operands.specs.Sources.{operand_at}
+use Rattle.gw_rules.specs.Sources.{operand_at}
 use Rattle.gw_step.specs.Operands.{MayEvaluate}
 use Rattle.gw_scan.specs.Visiting.{environment_in}
 use Rattle.gw_scan.proofs.Meeting.{argument_may}
