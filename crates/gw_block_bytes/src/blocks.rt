@@ -6,14 +6,12 @@ ghost use Rattle.std.specs.List.{All};
 ghost use Rattle.gw_object.specs.BlockGrammar.{GenerateFits, block, BlockFits};
 
 use crate::BlockFormat;
+use crate::forms::*;
 use crate::operands::*;
 use gw_field_bytes::{Receiver, Spelled, put_behind};
 use gw_fields::codes::TAG;
 use gw_fields::{ReadError, fault};
-use gw_object::{
-    Assign, Block, Call, Fraction, Gate, Generate, Link, Logic, Loop, Operand, Plus, Priority,
-    Save, Split, Spread, Test, Units, Unlink,
-};
+use gw_object::{Block, Generate};
 use std::alloc::Global;
 
 impl Spelled<BlockFormat> for Block {
@@ -90,159 +88,34 @@ impl Spelled<BlockFormat> for Block {
     fn read(alloc: Global, bytes: &[u8]) -> Result<(Block, &[u8]), ReadError> {
         let (tag, rest) = u8::read(alloc, bytes)?;
         match tag {
-            1 => {
-                let ((interval, (first, (limit, priority))), rest) = Spelled::read(alloc, rest)?;
-                let generate = Generate {
-                    interval,
-                    first,
-                    limit,
-                    priority,
-                };
-                Ok((Block::Generate(generate), rest))
-            }
-            2 => {
-                let (decrement, rest) = Operand::read(alloc, rest)?;
-                Ok((Block::Terminate(decrement), rest))
-            }
-            3 => {
-                let (time, rest) = Spread::read(alloc, rest)?;
-                Ok((Block::Advance(time), rest))
-            }
-            4 => {
-                let (facility, rest) = u16::read(alloc, rest)?;
-                Ok((Block::Seize(facility), rest))
-            }
-            5 => {
-                let (facility, rest) = u16::read(alloc, rest)?;
-                Ok((Block::Release(facility), rest))
-            }
-            6 => {
-                let (units, rest) = Units::read(alloc, rest)?;
-                Ok((Block::Enter(units), rest))
-            }
-            7 => {
-                let (units, rest) = Units::read(alloc, rest)?;
-                Ok((Block::Leave(units), rest))
-            }
-            8 => {
-                let (units, rest) = Units::read(alloc, rest)?;
-                Ok((Block::Queue(units), rest))
-            }
-            9 => {
-                let (units, rest) = Units::read(alloc, rest)?;
-                Ok((Block::Depart(units), rest))
-            }
-            10 => {
-                let (parameter, rest) = read_parameter_number(alloc, rest)?;
-                let ((mode, value), rest) = Spelled::read(alloc, rest)?;
-                let assign = Assign {
-                    parameter,
-                    mode,
-                    value,
-                };
-                Ok((Block::Assign(assign), rest))
-            }
-            11 => {
-                let ((comparison, (left, (right, otherwise))), rest) = Spelled::read(alloc, rest)?;
-                let test = Test {
-                    comparison,
-                    left,
-                    right,
-                    otherwise,
-                };
-                Ok((Block::Test(test), rest))
-            }
-            12 => {
-                let ((condition, (entity, otherwise)), rest) = Spelled::read(alloc, rest)?;
-                let gate = Gate {
-                    condition,
-                    entity,
-                    otherwise,
-                };
-                Ok((Block::Gate(gate), rest))
-            }
-            13 => {
-                let (target, rest) = u16::read(alloc, rest)?;
-                Ok((Block::Transfer(target), rest))
-            }
-            14 => {
-                let ((thousandths, (otherwise, target)), rest) = Spelled::read(alloc, rest)?;
-                let fraction = Fraction {
-                    thousandths,
-                    otherwise,
-                    target,
-                };
-                Ok((Block::TransferByFraction(fraction), rest))
-            }
-            15 => {
-                let (target, rest) = u16::read(alloc, rest)?;
-                let (parameter, rest) = read_parameter_number(alloc, rest)?;
-                Ok((
-                    Block::TransferToSubroutine(Call { target, parameter }),
-                    rest,
-                ))
-            }
-            16 => {
-                let (parameter, rest) = read_parameter_number(alloc, rest)?;
-                Ok((Block::TransferByParameter(parameter), rest))
-            }
-            17 => {
-                let (parameter, rest) = read_parameter_number(alloc, rest)?;
-                let (target, rest) = u16::read(alloc, rest)?;
-                Ok((Block::Loop(Loop { parameter, target }), rest))
-            }
-            18 => {
-                let ((copies, target), rest) = Spelled::read(alloc, rest)?;
-                Ok((Block::Split(Split { copies, target }), rest))
-            }
-            19 => {
-                let (size, rest) = u16::read(alloc, rest)?;
-                Ok((Block::Assemble(size), rest))
-            }
-            20 => {
-                let ((chain, order), rest) = Spelled::read(alloc, rest)?;
-                Ok((Block::Link(Link { chain, order }), rest))
-            }
-            21 => {
-                let ((chain, (target, most)), rest) = Spelled::read(alloc, rest)?;
-                let unlink = Unlink {
-                    chain,
-                    target,
-                    most,
-                };
-                Ok((Block::Unlink(unlink), rest))
-            }
-            22 => {
-                let ((action, switch), rest) = Spelled::read(alloc, rest)?;
-                Ok((Block::Logic(Logic { action, switch }), rest))
-            }
-            23 => {
-                let ((savevalue, (mode, value)), rest) = Spelled::read(alloc, rest)?;
-                let save = Save {
-                    savevalue,
-                    mode,
-                    value,
-                };
-                Ok((Block::Savevalue(save), rest))
-            }
-            24 => {
-                let (parameter, rest) = read_parameter_if_any(alloc, rest)?;
-                Ok((Block::Mark(parameter), rest))
-            }
-            25 => {
-                let ((value, behind), rest) = Spelled::read(alloc, rest)?;
-                Ok((Block::Priority(Priority { value, behind }), rest))
-            }
+            1 => read_generate(alloc, rest),
+            2 => read_terminate(alloc, rest),
+            3 => read_advance(alloc, rest),
+            4 => read_seize(alloc, rest),
+            5 => read_release(alloc, rest),
+            6 => read_enter(alloc, rest),
+            7 => read_leave(alloc, rest),
+            8 => read_queue(alloc, rest),
+            9 => read_depart(alloc, rest),
+            10 => read_assign(alloc, rest),
+            11 => read_test(alloc, rest),
+            12 => read_gate(alloc, rest),
+            13 => read_transfer(alloc, rest),
+            14 => read_transfer_by_fraction(alloc, rest),
+            15 => read_transfer_to_subroutine(alloc, rest),
+            16 => read_transfer_by_parameter(alloc, rest),
+            17 => read_loop(alloc, rest),
+            18 => read_split(alloc, rest),
+            19 => read_assemble(alloc, rest),
+            20 => read_link(alloc, rest),
+            21 => read_unlink(alloc, rest),
+            22 => read_logic(alloc, rest),
+            23 => read_savevalue(alloc, rest),
+            24 => read_mark(alloc, rest),
+            25 => read_priority(alloc, rest),
             26 => Ok((Block::Buffer, rest)),
-            27 => {
-                let (value, rest) = Operand::read(alloc, rest)?;
-                let (parameter, rest) = read_parameter_if_any(alloc, rest)?;
-                Ok((Block::Plus(Plus { value, parameter }), rest))
-            }
-            28 => {
-                let (table, rest) = u16::read(alloc, rest)?;
-                Ok((Block::Tabulate(table), rest))
-            }
+            27 => read_plus(alloc, rest),
+            28 => read_tabulate(alloc, rest),
             _ => Err(fault(TAG, bytes)),
         }
     }

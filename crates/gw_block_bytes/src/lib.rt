@@ -4,6 +4,7 @@
 
 mod blocks;
 mod choices;
+mod forms;
 mod operands;
 mod versions;
 
