@@ -2,6 +2,7 @@
 #![tactic(auto)]
 
 mod assembling;
+mod at_start;
 mod clock;
 mod copies;
 mod delays;

@@ -1,6 +1,6 @@
 //! The state before the first step.
 
-ghost use Rattle.std.specs.Prelude.{◌≡◌, Some, ◌≤◌, ◌<◌, ◌+◌, ◌^◌, length, replicate, IfOk, OnOk};
+ghost use Rattle.std.specs.Prelude.{◌≡◌, Some, ◌≤◌, ◌<◌, ◌+◌, ◌^◌, length, IfOk, OnOk};
 ghost use Rattle.gw_object.specs.Grammar.{HasSpelling};
 ghost use Rattle.gw_rules.specs.Kinds.{block_at};
 ghost use Rattle.gw_rules.specs.Accepted.{Checked};
@@ -13,27 +13,18 @@ ghost use Rattle.gw_machine.specs.Coherence.{IsOf};
 ghost use Rattle.gw_machine.specs.Leaving.{HasArrivedBelow, SchedulesBy, SchedulesOneAtMost, nothing_but};
 ghost use Rattle.gw_machine.specs.Slots.{greatest_set};
 
-use crate::entity_tables::EntityTables;
+use crate::at_start::{ObjectTables, Residents};
 use crate::machine::Machine;
 use crate::slots::greatest_set;
 use crate::wants::Wants;
 use gw_assemblies::Assemblies;
-use gw_chains::{Cec, Fec, Waits};
+use gw_chains::{Cec, Fec};
 use gw_members::Memory;
 use gw_num::Stream;
 use gw_object::{Block, Generate, Object};
 use gw_rules::Verified;
 use gw_step::End;
-use gw_transactions::Transactions;
-use gw_user_chains::UserChains;
 use std::alloc::Global;
-
-/// A table of so many counts, each 0.
-fn zeros(alloc: Global, n: usize) -> Result<Vec<u64>, Memory>
-    ensures { IfOk result (λ v. v.items ≡ replicate n 0) }
-{
-    vec![in alloc; 0u64; n]
-}
 
 impl Machine {
     /// A machine in which nothing is scheduled, for the blocks and entities of an object; a named end stands in it if one is
@@ -51,33 +42,33 @@ impl Machine {
         ensures slots { IfOk result (λ m. m.last ≡ greatest_set object.now.blocks) }
         ensures readable { IfOk result IsReadable }
     {
-        let blocks = object.parts().blocks.as_slice();
-        let scheduled = zeros(alloc, blocks.len() + 1)?;
-        let entries = zeros(alloc, blocks.len() + 1)?;
-        let entities = EntityTables::new(alloc, object)?;
-        let transactions = Transactions::new(alloc, greatest_set(blocks))?;
-        let count_of_entities = object.parts().entities.as_slice().len();
-        let waits = Waits::new(alloc, count_of_entities)?;
-        let chains = UserChains::new(alloc, count_of_entities)?;
-        Ok(Machine {
-            clock: 0,
-            count: count as i64,
-            steps: 0,
-            streams,
-            stir: false,
-            scheduled,
-            transactions,
-            active: None,
-            current_events: Cec::new(alloc),
-            future_events: Fec::new(alloc),
-            waits,
-            assemblies: Assemblies::new(alloc),
-            chains,
-            entities,
-            entries,
-            ended,
-            wants: Wants::new(alloc),
-        })
+        let tables = ObjectTables::new(alloc, object)?;
+        let slots = greatest_set(object.parts().blocks.as_slice());
+        match Residents::new(alloc, slots, object.parts().entities.as_slice().len()) {
+            Ok(residents) => Ok(Machine {
+                clock: 0,
+                count: count as i64,
+                steps: 0,
+                streams,
+                stir: false,
+                scheduled: tables.scheduled,
+                transactions: residents.transactions,
+                active: None,
+                current_events: Cec::new(alloc),
+                future_events: Fec::new(alloc),
+                waits: residents.lists.waits,
+                assemblies: Assemblies::new(alloc),
+                chains: residents.lists.chains,
+                entities: tables.entities,
+                entries: tables.entries,
+                ended,
+                wants: Wants::new(alloc),
+            }),
+            Err(memory) => {
+                drop(tables);
+                Err(memory)
+            }
+        }
     }
 
     /// When the first arrival of a GENERATE block comes, in clock units: at the time that the block gives, which draws
