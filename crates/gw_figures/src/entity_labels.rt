@@ -1,6 +1,7 @@
 //! The figures of an entity, by its kind.
 
-ghost use Rattle.std.specs.Prelude.{◌≡◌, ◌≤◌, ◌<◌, ◌+◌, ◌-◌, ◌++◌, [], ◌∷◌, OnOk, IfOk};
+ghost use Rattle.std.specs.Prelude.{◌≡◌, ◌≤◌, ◌<◌, ◌+◌, ◌-◌, ◌++◌, [], ◌∷◌, codes, OnOk, IfOk};
+ghost use Rattle.std.specs.Fmt.{signed_decimal};
 ghost use Rattle.gw_figures.specs.Labels as model;
 ghost use Rattle.gw_figures.specs.Labels.{AddsFigures, Label, labels, plain};
 
@@ -60,23 +61,55 @@ fn put_queue(alloc: Global, out: &mut Vec<Figure>, front: &[u8]) -> Result<(), M
     put_stay(alloc, out, front)
 }
 
+/// The least value of a class of a table, by its number, where it isn't the first.
+fn least_value(table: &Table, class: u64) -> i128
+    requires { 0 < class }
+    ensures { result ≡ model.least_value table.now class }
+{
+    upper_limit(table, class - 1) + 1
+}
+
+/// What the part of the first class of a table is called.
+fn put_first_class(out: &mut Vec<u8>, table: &Table) -> Result<(), Memory>
+    ensures { OnOk result (out.new.items
+        ≡ out.old.items ++ codes "TO " ++ signed_decimal table.now.limit ++ codes " SHARE") }
+{
+    put_number(out, "TO ", table.limit)?;
+    put(out, " SHARE")
+}
+
+/// What that of the last one is called, whose least value this is.
+fn put_last_class(out: &mut Vec<u8>, least: i128) -> Result<(), Memory>
+    ensures { OnOk result
+        (out.new.items ≡ out.old.items ++ codes "FROM " ++ signed_decimal least ++ codes " SHARE") }
+{
+    put_number(out, "FROM ", least)?;
+    put(out, " SHARE")
+}
+
+/// What that of one between them is called, whose least value and upper limit these are.
+fn put_class_between(out: &mut Vec<u8>, least: i128, limit: i128) -> Result<(), Memory>
+    ensures { OnOk result (out.new.items
+        ≡ out.old.items ++ signed_decimal least ++ codes " TO " ++ signed_decimal limit
+        ++ codes " SHARE") }
+{
+    put_number(out, "", least)?;
+    put_number(out, " TO ", limit)?;
+    put(out, " SHARE")
+}
+
 /// What the part of a class of a table is called, by its number, where so many are behind it.
 fn put_class(out: &mut Vec<u8>, table: &Table, class: u64, left: u64) -> Result<(), Memory>
     ensures { OnOk result
         (out.new.items ≡ out.old.items ++ model.class_text table.now class left) }
 {
     if class == 0 {
-        put_number(out, "TO ", table.limit)?;
-        return put(out, " SHARE");
+        put_first_class(out, table)
+    } else if left == 0 {
+        put_last_class(out, least_value(table, class))
+    } else {
+        put_class_between(out, least_value(table, class), upper_limit(table, class))
     }
-    let from = upper_limit(table, class - 1) + 1;
-    if left == 0 {
-        put_number(out, "FROM ", from)?;
-        return put(out, " SHARE");
-    }
-    put_number(out, "", from)?;
-    put_number(out, " TO ", upper_limit(table, class))?;
-    put(out, " SHARE")
 }
 
 /// The same, as a text of its own.

@@ -23,12 +23,20 @@ fn class_reaching(goal: u128, classes: &[u64]) -> usize
     place
 }
 
+/// By how much the upper limit of a class of a table is above that of the first, by its number.
+fn distance(table: &Table, class: u64) -> u128
+    ensures value { result ≡ class * table.now.width }
+    ensures range { result ≤ 2 ^ 96 }
+{
+    u128::from(class) * u128::from(table.width)
+}
+
 /// The upper limit of a class of a table, by its number.
 pub(crate) fn upper_limit(table: &Table, class: u64) -> i128
     ensures value { result ≡ model.upper_limit table.now class }
     ensures range { unsigned_abs result ≤ 2 ^ 97 }
 {
-    i128::from(table.limit) + i128::from(class) * i128::from(table.width)
+    i128::from(table.limit) + distance(table, class) as i128
 }
 
 /// A percentile of so many values of a table, where its classes have these: the upper limit of the first class up to which so
