@@ -135,14 +135,24 @@ fn put_notes_on_study(
     Ok(())
 }
 
+/// The notes on a study of a model that was read, of which these are the parts.
+fn notes_with(alloc: Global, model: &Model, parts: &Parts) -> Result<Vec<u8>, Memory> {
+    let sources = sources(alloc, model)?;
+    let mut out = Vec::new(alloc);
+    put_notes_on_study(alloc, &mut out, parts, &sources)?;
+    Ok(out)
+}
+
 /// The notes on a study of a model that was read.
 fn notes_on_model(alloc: Global, model: &Model) -> Result<Vec<u8>, Memory> {
-    let mut out = Vec::new(alloc);
-    if let Ok(verified) = assemble(alloc, model) {
-        let sources = sources(alloc, model)?;
-        put_notes_on_study(alloc, &mut out, verified.object().parts(), &sources)?;
+    match assemble(alloc, model).ok() {
+        Some(verified) => {
+            let notes = notes_with(alloc, model, verified.object().parts());
+            drop(verified);
+            notes
+        }
+        None => Ok(Vec::new(alloc)),
     }
-    Ok(out)
 }
 
 /// The notes on a model text that is accepted and of which a study is made, each in a line, as they stand in its explanation; that
