@@ -43,6 +43,17 @@ pub(crate) struct Changes {
     pub(crate) is_left_out: bool,
 }
 
+/// The place behind the last of these changes that begins at this byte or before it.
+fn place_behind(changes: &[Change], from: usize) -> usize {
+    let mut behind = 0usize;
+    for place in 0..changes.len() {
+        if changes[place].from <= from {
+            behind = place.saturating_add(1);
+        }
+    }
+    behind
+}
+
 impl Changes {
     /// None.
     pub(crate) fn new(alloc: Global) -> Changes {
@@ -75,11 +86,7 @@ impl Changes {
             to,
             replacement,
         };
-        let place = self
-            .changes
-            .iter()
-            .rposition(|it| it.from <= from)
-            .map_or(0, |place| place.saturating_add(1));
+        let place = place_behind(&self.changes, from);
         self.changes.insert(place.min(self.changes.len()), change)?;
         Ok(())
     }
