@@ -7,7 +7,7 @@ use crate::objects::{
 };
 use crate::rows::{put_number, put_row_at, put_weights};
 use crate::stop::Stop;
-use crate::words::{number, number_u32, place};
+use crate::words::{first_meaning, number, number_u32, place};
 use gw_answers::{Acceptance, Refusal};
 use gw_object_bytes::write;
 use gw_scan::Sim;
@@ -94,9 +94,11 @@ fn show_bytes(
     alloc: Global,
     out: &mut Vec<u8>,
     source: &Source,
-    from: usize,
-    to: usize,
+    from: &[u8],
+    to: &[u8],
 ) -> Result<(), Stop> {
+    let from = place(from)?;
+    let to = place(to)?;
     let bytes = spelling_of(alloc, source)?;
     match bytes.as_slice().get(from..to) {
         Some(part) => {
@@ -219,6 +221,63 @@ fn with_own_job(
     with_job(alloc, out, source, making, act)
 }
 
+/// Runs a job of this seed and count, which words spell.
+fn run_made(
+    alloc: Global,
+    out: &mut Vec<u8>,
+    source: &Source,
+    budget: u64,
+    seed: &[u8],
+    count: &[u8],
+    asked: &[&[u8]],
+) -> Result<(), Stop> {
+    let making = Making {
+        seed: number_u32(seed)?,
+        count: number(count)?,
+        budget,
+    };
+    with_job(alloc, out, source, making, &JobAct::Run(asked))
+}
+
+/// What the words of a line ask for.
+#[derive(Clone, Copy)]
+enum Request {
+    /// The text or the object, read.
+    Read,
+    /// The text, assembled.
+    Assemble,
+    /// The assembler's state table, or a row of it.
+    Settle,
+    /// The object, verified.
+    Check,
+    /// The weights of the object.
+    Weights,
+    /// A row of its state table.
+    Row,
+    /// A part of its spelling.
+    Bytes,
+    /// The report of its job.
+    Run,
+    /// How its job stands after so many steps.
+    View,
+    /// How its job stands after each of some steps.
+    Trace,
+}
+
+/// The words with which such lines begin.
+const REQUESTS: &[(&[u8], Request)] = &[
+    (b"read", Request::Read),
+    (b"asm", Request::Assemble),
+    (b"settle", Request::Settle),
+    (b"check", Request::Check),
+    (b"weights", Request::Weights),
+    (b"row", Request::Row),
+    (b"bytes", Request::Bytes),
+    (b"run", Request::Run),
+    (b"view", Request::View),
+    (b"trace", Request::Trace),
+];
+
 /// Does what the words ask for, and appends what comes of it.
 ///
 /// - `read`: reads the text, or the object;
@@ -239,28 +298,54 @@ fn act(
     budget: u64,
     words: &[&[u8]],
 ) -> Result<(), Stop> {
-    match words {
-        [b"read"] => read_source(alloc, out, source),
-        [b"asm"] => assemble_source(alloc, out, source),
-        [b"settle"] => settle_source(alloc, out, source),
-        [b"settle", row] => show_settled_row(alloc, out, source, row),
-        [b"check"] => check_source(alloc, out, source),
-        [b"weights"] => show_weights(alloc, out, source),
-        [b"row", row] => show_row(alloc, out, source, row),
-        [b"bytes", from, to] => { show_bytes(alloc, out, source, place(from)?, place(to)?) }
-        [b"run", seed, count, asked @ ..] => {
-            let making = Making {
-                seed: number_u32(seed)?,
-                count: number(count)?,
-                budget,
-            };
-            with_job(alloc, out, source, making, &JobAct::Run(asked))
+    let (request, rest) = first_meaning(REQUESTS, words)?;
+    match request {
+        Request::Run | Request::View | Request::Trace => act_on_job_of(
+            alloc, out, source, budget, request, rest,
+        ),
+        _ => act_on_source(alloc, out, source, request, rest),
+    }
+}
+
+/// Does what is done with a text or an object.
+fn act_on_source(
+    alloc: Global,
+    out: &mut Vec<u8>,
+    source: &Source,
+    request: Request,
+    words: &[&[u8]],
+) -> Result<(), Stop> {
+    match (request, words) {
+        (Request::Read, []) => read_source(alloc, out, source),
+        (Request::Assemble, []) => assemble_source(alloc, out, source),
+        (Request::Settle, []) => settle_source(alloc, out, source),
+        (Request::Settle, [row]) => show_settled_row(alloc, out, source, row),
+        (Request::Check, []) => check_source(alloc, out, source),
+        (Request::Weights, []) => show_weights(alloc, out, source),
+        (Request::Row, [row]) => show_row(alloc, out, source, row),
+        (Request::Bytes, [from, to]) => show_bytes(alloc, out, source, from, to),
+        _ => Err(Stop::Unknown),
+    }
+}
+
+/// Does what is done with the job of a source.
+fn act_on_job_of(
+    alloc: Global,
+    out: &mut Vec<u8>,
+    source: &Source,
+    budget: u64,
+    request: Request,
+    words: &[&[u8]],
+) -> Result<(), Stop> {
+    match (request, words) {
+        (Request::Run, [seed, count, asked @ ..]) => {
+            run_made(alloc, out, source, budget, seed, count, asked)
         }
-        [b"view", steps, asked @ ..] => {
+        (Request::View, [steps, asked @ ..]) => {
             let act = JobAct::View(number(steps)?, asked);
             with_own_job(alloc, out, source, budget, &act)
         }
-        [b"trace", first, last] => {
+        (Request::Trace, [first, last]) => {
             let act = JobAct::Trace(number(first)?, number(last)?);
             with_own_job(alloc, out, source, budget, &act)
         }

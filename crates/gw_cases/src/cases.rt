@@ -8,11 +8,51 @@ use crate::bytes::put_line;
 use crate::objects::{Kind, Source};
 use crate::rows::put_number;
 use crate::stop::Stop;
-use crate::words::{number, words_of};
+use crate::words::{first_meaning, number, words_of};
 use std::alloc::{AllocError, Global};
 
 /// The budget of jobs, where a case gives none: that of the program `gpssw`.
 const BUDGET: u64 = 1_000_000_000;
+
+/// What a line of a script says of a case.
+#[derive(Clone, Copy)]
+enum Section {
+    /// Its text.
+    Text,
+    /// More of its text, many times.
+    Times,
+    /// More bytes of its text.
+    Hex,
+    /// The bytes of its object.
+    Object,
+    /// A change of the object's parts.
+    Patch,
+    /// A change of the object's spelling.
+    Splice,
+    /// The budget of its jobs.
+    Budget,
+    /// Something that is to be done.
+    Act,
+}
+
+/// The words with which lines begin that ask for nothing.
+const SECTIONS: &[(&[u8], Section)] = &[
+    (b"case", Section::Text),
+    (b"times", Section::Times),
+    (b"hex", Section::Hex),
+    (b"object", Section::Object),
+    (b"set", Section::Patch),
+    (b"splice", Section::Splice),
+    (b"budget", Section::Budget),
+];
+
+/// What the words of a line say, and those behind the first one.
+fn section_of<'a, 'b>(words: &'b [&'a [u8]]) -> (Section, &'b [&'a [u8]]) {
+    match first_meaning(SECTIONS, words) {
+        Ok(found) => found,
+        Err(_) => (Section::Act, words),
+    }
+}
 
 /// A case, as far as its lines were read.
 #[derive(Drop)]
@@ -129,10 +169,40 @@ impl<'a> Case<'a> {
     }
 
     /// Adds lines to the text, so many times.
-    fn add_times(&mut self, alloc: Global, times: u64, lines: &[&[u8]]) -> Result<(), AllocError> {
+    fn add_times(&mut self, alloc: Global, times: u64, lines: &[&[u8]]) -> Result<(), Stop> {
         for i in 0..times {
             put_numbered(alloc, &mut self.source.bytes, lines, i + 1)?;
         }
+        Ok(())
+    }
+
+    /// Adds lines to the text, as many times as a word says.
+    fn add_times_of(&mut self, alloc: Global, times: &[u8], lines: &[&[u8]]) -> Result<(), Stop> {
+        self.add_times(alloc, number(times)?, lines)
+    }
+
+    /// Begins an object, with the bytes that lines spell.
+    fn begin_object(&mut self, alloc: Global, lines: &[&[u8]]) -> Result<(), Stop> {
+        self.source.kind = Kind::Object;
+        self.source.bytes.clear();
+        self.add_hex(alloc, lines)
+    }
+
+    /// Adds a change of the object's parts.
+    fn add_patch(&mut self, line: &'a [u8]) -> Result<(), Stop> {
+        self.source.patches.push(behind(line, b"% set"))?;
+        Ok(())
+    }
+
+    /// Adds a change of the object's spelling.
+    fn add_splice(&mut self, line: &'a [u8]) -> Result<(), Stop> {
+        self.source.splices.push(behind(line, b"% splice"))?;
+        Ok(())
+    }
+
+    /// Changes the budget of jobs to what a word says.
+    fn set_budget(&mut self, budget: &[u8]) -> Result<(), Stop> {
+        self.budget = number(budget)?;
         Ok(())
     }
 
@@ -158,7 +228,7 @@ impl<'a> Case<'a> {
         line: &[u8],
         words: &[&[u8]],
         lines: &[&[u8]],
-    ) -> Result<(), AllocError> {
+    ) -> Result<(), Stop> {
         let mut wanted = Vec::new(alloc);
         put_lines(&mut wanted, lines)?;
         let mut came = Vec::new(alloc);
@@ -167,7 +237,8 @@ impl<'a> Case<'a> {
         if is_met(wanted.as_slice(), came.as_slice()) {
             Ok(())
         } else {
-            self.note(alloc, line, wanted.as_slice(), came.as_slice())
+            self.note(alloc, line, wanted.as_slice(), came.as_slice())?;
+            Ok(())
         }
     }
 
@@ -187,37 +258,15 @@ impl<'a> Case<'a> {
         words: &[&[u8]],
         lines: &[&[u8]],
     ) -> Result<(), Stop> {
-        match words {
-            [b"case", ..] => {
-                self.add_times(alloc, 1, lines)?;
-                Ok(())
-            }
-            [b"times", times] => {
-                self.add_times(alloc, number(times)?, lines)?;
-                Ok(())
-            }
-            [b"hex"] => self.add_hex(alloc, lines),
-            [b"object"] => {
-                self.source.kind = Kind::Object;
-                self.source.bytes.clear();
-                self.add_hex(alloc, lines)
-            }
-            [b"set", ..] => {
-                self.source.patches.push(behind(line, b"% set"))?;
-                Ok(())
-            }
-            [b"splice", ..] => {
-                self.source.splices.push(behind(line, b"% splice"))?;
-                Ok(())
-            }
-            [b"budget", budget] => {
-                self.budget = number(budget)?;
-                Ok(())
-            }
-            _ => {
-                self.ask(alloc, line, words, lines)?;
-                Ok(())
-            }
+        match section_of(words) {
+            (Section::Text, _) => self.add_times(alloc, 1, lines),
+            (Section::Times, [times]) => self.add_times_of(alloc, times, lines),
+            (Section::Hex, []) => self.add_hex(alloc, lines),
+            (Section::Object, []) => self.begin_object(alloc, lines),
+            (Section::Patch, _) => self.add_patch(line),
+            (Section::Splice, _) => self.add_splice(line),
+            (Section::Budget, [budget]) => self.set_budget(budget),
+            _ => self.ask(alloc, line, words, lines),
         }
     }
 

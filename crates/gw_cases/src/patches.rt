@@ -3,7 +3,10 @@
 use crate::bytes::put_words;
 use crate::rows::chain_place;
 use crate::stop::Stop;
-use crate::words::{number, number_in, number_u8, number_u16, number_u32, place};
+use crate::words::{
+    behind_word, first_meaning, first_of, number, number_in, number_u8, number_u16, number_u32,
+    only_of, place,
+};
 use gw_block_bytes::read_block;
 use gw_code_bytes::CodeFormat;
 use gw_field_bytes::Spelled;
@@ -83,27 +86,50 @@ fn spelled_block(alloc: Global, words: &[&[u8]]) -> Result<Block, Stop> {
     }
 }
 
-/// Changes a block, its weight or its slope.
-fn patch_block(
-    alloc: Global,
-    parts: &mut Parts,
-    block: usize,
-    words: &[&[u8]],
-) -> Result<(), Stop> {
-    match words {
-        [b"weight", value] => {
-            let weight = number_u32(value)?;
-            put_at(alloc, &mut parts.weights, block, weight)
-        }
-        [b"slope", parameter, value] => {
-            let slope = Some((number_u8(parameter)?, number_u32(value)?));
-            put_at(alloc, &mut parts.slopes, block, slope)
-        }
-        [b"bytes", bytes @ ..] => {
-            let value = spelled_block(alloc, bytes)?;
+/// What a line of a script changes of a block.
+#[derive(Clone, Copy)]
+enum OfBlock {
+    /// Its weight.
+    Weight,
+    /// The slope of its weight.
+    Slope,
+    /// The block itself, by its spelling.
+    Bytes,
+}
+
+/// The words that say what is changed of a block.
+const OF_BLOCK: &[(&[u8], OfBlock)] = &[
+    (b"weight", OfBlock::Weight),
+    (b"slope", OfBlock::Slope),
+    (b"bytes", OfBlock::Bytes),
+];
+
+/// Changes a block's weight.
+fn put_weight(alloc: Global, parts: &mut Parts, block: usize, words: &[&[u8]]) -> Result<(), Stop> {
+    let weight = number_u32(only_of(words)?)?;
+    put_at(alloc, &mut parts.weights, block, weight)
+}
+
+/// Changes a block's slope.
+fn put_slope(alloc: Global, parts: &mut Parts, block: usize, words: &[&[u8]]) -> Result<(), Stop> {
+    let (parameter, rest) = first_of(words)?;
+    let value = only_of(rest)?;
+    let slope = Some((number_u8(parameter)?, number_u32(value)?));
+    put_at(alloc, &mut parts.slopes, block, slope)
+}
+
+/// Changes a block: `B weight W`, `B slope P N` or `B bytes HEX ..`.
+fn patch_block(alloc: Global, parts: &mut Parts, words: &[&[u8]]) -> Result<(), Stop> {
+    let (block, rest) = first_of(words)?;
+    let block = block_place(block)?;
+    let (changed, rest) = first_meaning(OF_BLOCK, rest)?;
+    match changed {
+        OfBlock::Weight => put_weight(alloc, parts, block, rest),
+        OfBlock::Slope => put_slope(alloc, parts, block, rest),
+        OfBlock::Bytes => {
+            let value = spelled_block(alloc, rest)?;
             put_at(alloc, &mut parts.blocks, block, value)
         }
-        _ => Err(Stop::Unknown),
     }
 }
 
@@ -118,58 +144,104 @@ fn empty_row(alloc: Global) -> TableState {
 
 /// What a parameter of a row holds.
 fn table_kind(words: &[&[u8]]) -> Result<TableKind, Stop> {
-    match words {
-        [b"number"] => Ok(TableKind::Num),
-        [b"return", row] => Ok(TableKind::Ret(number_u16(row)?)),
-        _ => Err(Stop::Unknown),
+    let (first, rest) = first_of(words)?;
+    if first == b"number".as_slice() && rest.is_empty() {
+        return Ok(TableKind::Num);
     }
+    let row = only_of(behind_word(b"return", words)?)?;
+    Ok(TableKind::Ret(number_u16(row)?))
 }
 
-/// Adds what a row says.
+/// What a line of a script adds to a row.
+#[derive(Clone, Copy)]
+enum Addition {
+    /// A facility that is owned.
+    Facility,
+    /// Units of an entity.
+    Units,
+    /// A parameter, and what it holds.
+    Parameter,
+}
+
+/// The words that say what is added to a row.
+const ADDITIONS: &[(&[u8], Addition)] = &[
+    (b"facility", Addition::Facility),
+    (b"units", Addition::Units),
+    (b"parameter", Addition::Parameter),
+];
+
+/// Adds a facility to a row.
+fn add_facility(
+    alloc: Global,
+    row: &mut TableState,
+    entities: &[Entity],
+    words: &[&[u8]],
+) -> Result<(), Stop> {
+    let facility = entity_number(entities, only_of(words)?)?;
+    push(alloc, &mut row.facilities, facility)?;
+    Ok(())
+}
+
+/// Adds units to a row.
+fn add_units(
+    alloc: Global,
+    row: &mut TableState,
+    entities: &[Entity],
+    words: &[&[u8]],
+) -> Result<(), Stop> {
+    let (units, rest) = first_of(words)?;
+    let entity = entity_number(entities, only_of(rest)?)?;
+    let number = number_u32(units)?;
+    push(alloc, &mut row.units, Units { entity, number })?;
+    Ok(())
+}
+
+/// Adds a parameter to a row.
+fn add_parameter(alloc: Global, row: &mut TableState, words: &[&[u8]]) -> Result<(), Stop> {
+    let (parameter, kind) = first_of(words)?;
+    let number = number_u8(parameter)?;
+    let kind = table_kind(kind)?;
+    push(alloc, &mut row.parameters, TableParameter { number, kind })?;
+    Ok(())
+}
+
+/// Adds what a row says: `facility NAME`, `units N NAME`, `parameter P number` or `parameter P return R`.
 fn add_to_row(
     alloc: Global,
     row: &mut TableState,
     entities: &[Entity],
     words: &[&[u8]],
 ) -> Result<(), Stop> {
-    match words {
-        [b"facility", name] => {
-            let facility = entity_number(entities, name)?;
-            push(alloc, &mut row.facilities, facility)?;
-            Ok(())
-        }
-        [b"units", units, name] => {
-            let entity = entity_number(entities, name)?;
-            let number = number_u32(units)?;
-            push(alloc, &mut row.units, Units { entity, number })?;
-            Ok(())
-        }
-        [b"parameter", parameter, kind @ ..] => {
-            let number = number_u8(parameter)?;
-            let kind = table_kind(kind)?;
-            push(alloc, &mut row.parameters, TableParameter { number, kind })?;
-            Ok(())
-        }
-        _ => Err(Stop::Unknown),
+    let (addition, rest) = first_meaning(ADDITIONS, words)?;
+    match addition {
+        Addition::Facility => add_facility(alloc, row, entities, rest),
+        Addition::Units => add_units(alloc, row, entities, rest),
+        Addition::Parameter => add_parameter(alloc, row, rest),
     }
 }
 
-/// The row with what a line of a script says of it: none, an empty one, or one thing more.
-fn changed_row(
+/// Makes a row none, or an empty one, as a word says.
+fn put_bare_row(alloc: Global, slot: &mut Option<TableState>, word: &[u8]) -> Result<(), Stop> {
+    if word == b"none".as_slice() {
+        drop(mem::replace(slot, None));
+        Ok(())
+    } else if word == b"empty".as_slice() {
+        drop(mem::replace(slot, Some(empty_row(alloc))));
+        Ok(())
+    } else {
+        Err(Stop::Unknown)
+    }
+}
+
+/// Makes a row what a line of a script says: none, an empty one, or what it was with one thing more.
+fn change_row(
     alloc: Global,
     slot: &mut Option<TableState>,
     entities: &[Entity],
     words: &[&[u8]],
 ) -> Result<(), Stop> {
     match words {
-        [b"none"] => {
-            drop(mem::replace(slot, None));
-            Ok(())
-        }
-        [b"empty"] => {
-            drop(mem::replace(slot, Some(empty_row(alloc))));
-            Ok(())
-        }
+        [word] => put_bare_row(alloc, slot, word),
         _ => match slot {
             Some(row) => add_to_row(alloc, row, entities, words),
             None => Err(Stop::Unknown),
@@ -187,7 +259,7 @@ fn patch_row(
 ) -> Result<(), Stop> {
     let mut list = mem::replace(rows, Items::from_vec(Vec::new(alloc))).into_vec();
     let found = match list.get_mut(place) {
-        Some(slot) => changed_row(alloc, slot, entities, words),
+        Some(slot) => change_row(alloc, slot, entities, words),
         None => Err(Stop::Unknown),
     };
     drop(mem::replace(rows, Items::from_vec(list)));
@@ -195,19 +267,14 @@ fn patch_row(
 }
 
 /// Changes the row of a block, which is given by its number, or of a user chain, which is given by its name.
-fn patch_state(alloc: Global, parts: &mut Parts, name: &[u8], words: &[&[u8]]) -> Result<(), Stop> {
+fn patch_state(alloc: Global, parts: &mut Parts, words: &[&[u8]]) -> Result<(), Stop> {
+    let (name, rest) = first_of(words)?;
     let entities = parts.entities.as_slice();
     match number_in(name) {
-        Some(_) => patch_row(
-            alloc,
-            &mut parts.states,
-            block_place(name)?,
-            entities,
-            words,
-        ),
+        Some(_) => patch_row(alloc, &mut parts.states, block_place(name)?, entities, rest),
         None => {
             let chain = chain_place(entities, name).ok_or(Stop::Unknown)?;
-            patch_row(alloc, &mut parts.chain_states, chain, entities, words)
+            patch_row(alloc, &mut parts.chain_states, chain, entities, rest)
         }
     }
 }
@@ -230,17 +297,97 @@ fn numbers_u32(alloc: Global, words: &[&[u8]]) -> Result<Vec<u32>, Stop> {
     Ok(numbers)
 }
 
-/// Changes a user chain's weight.
-fn patch_chain(alloc: Global, parts: &mut Parts, name: &[u8], words: &[&[u8]]) -> Result<(), Stop> {
-    match words {
-        [b"weight", value] => {
-            let chain = chain_place(parts.entities.as_slice(), name).ok_or(Stop::Unknown)?;
-            let weight = number_u32(value)?;
-            put_at(alloc, &mut parts.chain_weights, chain, weight)
+/// Changes a user chain's weight: `NAME weight W`.
+fn patch_chain(alloc: Global, parts: &mut Parts, words: &[&[u8]]) -> Result<(), Stop> {
+    let (name, rest) = first_of(words)?;
+    let value = only_of(behind_word(b"weight", rest)?)?;
+    let chain = chain_place(parts.entities.as_slice(), name).ok_or(Stop::Unknown)?;
+    let weight = number_u32(value)?;
+    put_at(alloc, &mut parts.chain_weights, chain, weight)
+}
+
+/// Changes a procedure: `P bytes HEX ..`.
+fn patch_procedure(alloc: Global, parts: &mut Parts, words: &[&[u8]]) -> Result<(), Stop> {
+    let (procedure, rest) = first_of(words)?;
+    let value = spelled::<CodeFormat, Procedure>(alloc, behind_word(b"bytes", rest)?)?;
+    match place(procedure) {
+        Ok(place) => put_at(alloc, &mut parts.procedures, place, value),
+        Err(stop) => {
+            drop(value);
+            Err(stop)
         }
-        _ => Err(Stop::Unknown),
     }
 }
+
+/// Changes the version.
+fn put_version(parts: &mut Parts, words: &[&[u8]]) -> Result<(), Stop> {
+    parts.version = number_u16(only_of(words)?)?;
+    Ok(())
+}
+
+/// Changes the termination count.
+fn put_count(parts: &mut Parts, words: &[&[u8]]) -> Result<(), Stop> {
+    parts.count = number(only_of(words)?)?;
+    Ok(())
+}
+
+/// Changes the seeds.
+fn put_seeds(alloc: Global, parts: &mut Parts, words: &[&[u8]]) -> Result<(), Stop> {
+    let seeds = Items::from_vec(numbers_u32(alloc, words)?);
+    drop(mem::replace(&mut parts.seeds, seeds));
+    Ok(())
+}
+
+/// Puts so many slopes that aren't there in the place of all slopes.
+fn put_slopes(alloc: Global, parts: &mut Parts, words: &[&[u8]]) -> Result<(), Stop> {
+    let number = place(only_of(words)?)?;
+    let slopes = Items::from_vec(vec![in alloc; None; number]?);
+    drop(mem::replace(&mut parts.slopes, slopes));
+    Ok(())
+}
+
+/// Adds a return row.
+fn add_return(alloc: Global, parts: &mut Parts, words: &[&[u8]]) -> Result<(), Stop> {
+    let blocks = Items::from_vec(numbers_u16(alloc, words)?);
+    push(alloc, &mut parts.returns, ReturnRow { blocks })?;
+    Ok(())
+}
+
+/// What a line of a script changes.
+#[derive(Clone, Copy)]
+enum Change {
+    /// The version.
+    Version,
+    /// The termination count.
+    Count,
+    /// The seeds.
+    Seeds,
+    /// How many slopes there are.
+    Slopes,
+    /// A block, its weight or its slope.
+    Block,
+    /// The weight of a user chain.
+    Chain,
+    /// A procedure.
+    Procedure,
+    /// The return rows: there is one more.
+    Return,
+    /// The row of a block or of a user chain.
+    State,
+}
+
+/// The words with which such lines begin.
+const CHANGES: &[(&[u8], Change)] = &[
+    (b"version", Change::Version),
+    (b"count", Change::Count),
+    (b"seeds", Change::Seeds),
+    (b"slopes", Change::Slopes),
+    (b"block", Change::Block),
+    (b"chain", Change::Chain),
+    (b"procedure", Change::Procedure),
+    (b"return", Change::Return),
+    (b"state", Change::State),
+];
 
 /// Changes parts as a line of a script says:
 ///
@@ -254,74 +401,18 @@ fn patch_chain(alloc: Global, parts: &mut Parts, name: &[u8], words: &[&[u8]]) -
 /// - `state PLACE none`, `state PLACE empty`, `state PLACE facility NAME`, `state PLACE units N NAME`, `state PLACE parameter P
 ///   number`, `state PLACE parameter P return R`: the row of a block or of a user chain, of which the last four add to it.
 pub fn apply(alloc: Global, parts: &mut Parts, words: &[&[u8]]) -> Result<(), Stop> {
-    match words {
-        [b"version", value] => put_version(parts, value),
-        [b"slopes", value] => put_slopes(alloc, parts, value),
-        [b"count", value] => put_count(parts, value),
-        [b"seeds", seeds @ ..] => put_seeds(alloc, parts, seeds),
-        [b"block", block, rest @ ..] => patch_a_block(alloc, parts, block, rest),
-        [b"chain", chain, rest @ ..] => patch_chain(alloc, parts, chain, rest),
-        [b"procedure", procedure, b"bytes", bytes @ ..] => {
-            put_procedure(alloc, parts, procedure, bytes)
-        }
-        [b"return", blocks @ ..] => add_return(alloc, parts, blocks),
-        [b"state", name, rest @ ..] => patch_state(alloc, parts, name, rest),
-        _ => Err(Stop::Unknown),
+    let (change, rest) = first_meaning(CHANGES, words)?;
+    match change {
+        Change::Version => put_version(parts, rest),
+        Change::Count => put_count(parts, rest),
+        Change::Seeds => put_seeds(alloc, parts, rest),
+        Change::Slopes => put_slopes(alloc, parts, rest),
+        Change::Block => patch_block(alloc, parts, rest),
+        Change::Chain => patch_chain(alloc, parts, rest),
+        Change::Procedure => patch_procedure(alloc, parts, rest),
+        Change::Return => add_return(alloc, parts, rest),
+        Change::State => patch_state(alloc, parts, rest),
     }
-}
-
-/// `version N`.
-fn put_version(parts: &mut Parts, value: &[u8]) -> Result<(), Stop> {
-    parts.version = number_u16(value)?;
-    Ok(())
-}
-
-/// `slopes N`.
-fn put_slopes(alloc: Global, parts: &mut Parts, value: &[u8]) -> Result<(), Stop> {
-    let slopes = Items::from_vec(vec![in alloc; None; place(value)?]?);
-    drop(mem::replace(&mut parts.slopes, slopes));
-    Ok(())
-}
-
-/// `count N`.
-fn put_count(parts: &mut Parts, value: &[u8]) -> Result<(), Stop> {
-    parts.count = number(value)?;
-    Ok(())
-}
-
-/// `seeds N ..`.
-fn put_seeds(alloc: Global, parts: &mut Parts, seeds: &[&[u8]]) -> Result<(), Stop> {
-    let seeds = Items::from_vec(numbers_u32(alloc, seeds)?);
-    drop(mem::replace(&mut parts.seeds, seeds));
-    Ok(())
-}
-
-/// `block B ..`.
-fn patch_a_block(
-    alloc: Global,
-    parts: &mut Parts,
-    block: &[u8],
-    rest: &[&[u8]],
-) -> Result<(), Stop> {
-    patch_block(alloc, parts, block_place(block)?, rest)
-}
-
-/// `procedure P bytes HEX ..`.
-fn put_procedure(
-    alloc: Global,
-    parts: &mut Parts,
-    procedure: &[u8],
-    bytes: &[&[u8]],
-) -> Result<(), Stop> {
-    let value = spelled::<CodeFormat, Procedure>(alloc, bytes)?;
-    put_at(alloc, &mut parts.procedures, place(procedure)?, value)
-}
-
-/// `return B ..`.
-fn add_return(alloc: Global, parts: &mut Parts, blocks: &[&[u8]]) -> Result<(), Stop> {
-    let blocks = Items::from_vec(numbers_u16(alloc, blocks)?);
-    push(alloc, &mut parts.returns, ReturnRow { blocks })?;
-    Ok(())
 }
 
 /// Puts the bytes that words spell in the place of those from one place to another: `6 7 ff 00` puts two bytes in the place of

@@ -106,6 +106,23 @@ fn run_case<'a>(
     tell(out, outcomes, line, &case)
 }
 
+/// Runs the cases of which these are the lines.
+fn run_cases(
+    alloc: Global,
+    out: &mut Vec<u8>,
+    outcomes: &mut Vec<bool>,
+    lines: &[&[u8]],
+) -> Result<(), AllocError> {
+    for i in 0..lines.len() {
+        if begins_case(lines[i]) {
+            let (_, rest) = lines.split_at(i + 1);
+            let (body, _) = rest.split_at(case_begin(rest));
+            run_case(alloc, out, outcomes, lines[i], body)?;
+        }
+    }
+    Ok(())
+}
+
 /// Runs the cases of a script. It appends a line for each, with what was wanted and what came where it fails, and takes note
 /// whether it passed.
 pub fn run_script(
@@ -115,13 +132,5 @@ pub fn run_script(
     script: &[u8],
 ) -> Result<(), AllocError> {
     let lines = lines_of(alloc, script)?;
-    let lines = lines.as_slice();
-    for i in 0..lines.len() {
-        if begins_case(lines[i]) {
-            let (_, rest) = lines.split_at(i + 1);
-            let (body, _) = rest.split_at(case_begin(rest));
-            run_case(alloc, out, outcomes, lines[i], body)?;
-        }
-    }
-    Ok(())
+    run_cases(alloc, out, outcomes, lines.as_slice())
 }
