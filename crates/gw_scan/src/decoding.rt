@@ -14,7 +14,7 @@ use gw_object::{
 use std::alloc::Global;
 
 /// The operands of a GENERATE whose interval is of constants.
-#[derive(Clone, Copy, PartialEq, Eq)]
+#[derive(Clone, Copy)]
 pub(crate) struct Arrivals {
     /// The time between two arrivals.
     pub interval: Span,
@@ -27,7 +27,7 @@ pub(crate) struct Arrivals {
 }
 
 /// The operands of an ASSIGN of a constant.
-#[derive(Clone, Copy, PartialEq, Eq)]
+#[derive(Clone, Copy)]
 pub(crate) struct AssignConstant {
     /// The parameter's number, from 1 to 64.
     pub parameter: u8,
@@ -38,7 +38,7 @@ pub(crate) struct AssignConstant {
 }
 
 /// The operands of a SAVEVALUE with a constant.
-#[derive(Clone, Copy, PartialEq, Eq)]
+#[derive(Clone, Copy)]
 pub(crate) struct SaveConstant {
     /// The savevalue's entity's number, from 0.
     pub savevalue: u16,
@@ -49,7 +49,7 @@ pub(crate) struct SaveConstant {
 }
 
 /// The operands of a PRIORITY with a constant that is a priority.
-#[derive(Clone, Copy, PartialEq, Eq)]
+#[derive(Clone, Copy)]
 pub(crate) struct PriorityConstant {
     /// The new priority.
     pub value: i32,
@@ -58,7 +58,7 @@ pub(crate) struct PriorityConstant {
 }
 
 /// A block as a step meets it. Where operands are constants they are worked out; else they are the block's.
-#[derive(Clone, Copy, PartialEq, Eq)]
+#[derive(Clone, Copy)]
 pub(crate) enum Decoded {
     /// GENERATE with an interval of constants.
     GenerateWithin(Arrivals),

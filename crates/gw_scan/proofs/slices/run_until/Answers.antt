@@ -1,4 +1,4 @@
-use Rattle.std.proofs.Common.{rules, ◌≡◌, ◌+◌, ◌-◌, ◌<◌, Option, Some, None, false, refl, sym, ◌∙◌, subst, arith}
+use Rattle.std.proofs.Common.{rules, ◌≡◌, ◌+◌, ◌-◌, ◌<◌, Option, Some, None, false, refl, sym, ap, ◌∙◌, subst, arith}
 use Rattle.std.specs.Prelude.{is_some}
 use Rattle.gw_machine.specs.Configuration.{Configuration}
 use Rattle.gw_machine.specs.View.{state_of}
@@ -41,6 +41,28 @@ module _ (j : Job) (p : Parts) (m new : Configuration) (parts : p ≡ j.parts) (
 none_stands : (end : Option End) → is_some end ≡ false → end ≡ None
 none_stands None is = refl
 none_stands (Some end) is = absurd cc
+
+pub loop-verified-init : goal.loop-verified-init
+loop-verified-init c =
+    let m = c.args.machine.now in
+    let j = c.args.spec.now in
+    let runs = none_stands m.ended (search rules) in (
+      subst (λ (s : State). IsReached (record { job = j; state = s }))
+          (sym (below_budget j.budget (state_of m) (c.requires.reached.bounded.runs runs))) c.requires.reached,
+      refl,
+      omega arith,
+      c.requires.later,
+      runs,
+    )
+
+pub returns-in_err-step_past_budget-clause-reached : goal.returns-in_err-step_past_budget-clause-reached
+returns-in_err-step_past_budget-clause-reached c =
+    let m = c.loop-verified.machine in
+    let j = c.args.spec.now in
+    let below : m.steps < c.args.until = search rules in
+    subst (λ (s : State). IsReached (record { job = j; state = s }))
+    (below_budget j.budget (state_of m) (omega (arith, below, c.requires.allowed)) ∙ sym c.in_err-step_past_budget.ensures.err)
+    c.loop-verified.invariant.0
 
 pub loop-verified-smaller : goal.loop-verified-smaller
 loop-verified-smaller c =
@@ -91,3 +113,9 @@ returns-then-branch-clause-most c =
     c.in_ok-step_past_budget.ensures.made in
     let below : c.loop-verified.machine.steps < c.args.until = search rules in
     omega (arith, more, below)
+
+pub returns-clause-reached : goal.returns-clause-reached
+returns-clause-reached c =
+    let budget = ap (λ b. within_budget b (state_of c.loop-verified.machine)) c.budget.ensures.value in
+    subst (λ (s : State). IsReached (record { job = c.args.spec.now; state = s })) (sym (c.end_at_budget.ensures.0 ∙ budget))
+    c.loop-verified.invariant.0

@@ -1,9 +1,12 @@
-use Rattle.std.proofs.Common.{rules, ◌≡◌, ◌∙◌, None, sym, subst}
+use Rattle.std.proofs.Common.{rules, ◌≡◌, ◌∙◌, Option, Some, None, refl, sym, subst}
 use Rattle.gw_object.specs.declared.parts.Parts.{Parts}
-use Rattle.gw_step.specs.Job.{Progress, Step}
+use Rattle.gw_step.specs.Job.{Job, Progress, Step}
+use Rattle.gw_step.specs.State.{State}
+use Rattle.gw_step.specs.declared.ends.End.{End}
 use Rattle.gw_step.proofs.Reached.{reached_more}
 use Rattle.gw_machine.specs.View.{state_of}
-use Rattle.gw_scan.specs.Answers.{StaysPaid}
+use Rattle.gw_scan.specs.Answers.{Answers, AnswersFrom, StaysPaid, status_at}
+use Rattle.gw_scan.specs.declared.sim.Status.{Status}
 use Rattle.gw_scan.specs.Visiting.{IsReady}
 use Rattle.gw_scan.proofs.Running.{is_ready}
 use Rattle.gw_scan.proofs.Moments.{stays_paid}
@@ -26,6 +29,25 @@ invariant_of-self-2 c = record {
   reached = reached_more c.self.inside.spec (state_of c.self.inside.machine) (state_of c.step.new.machine) c.self.invariant.reached (runs c) (makes c);
   slots = c.step.ensures.slots ∙ c.self.invariant.slots;
 }
+
+-- what stands after a step of a running job is answered
+answers : (status : Status) (j : Job) (old new : State) → old.ended ≡ None → status ≡ status_at new.ended → Step j old new → Answers status j old new
+answers status j old new running is made =
+    subst (λ end. AnswersFrom end status j old new) (sym running) (subst (λ s. AnswersFrom None s j old new) (sym is) (by new.ended refl))
+  where
+    by : (end : Option End) → new.ended ≡ end → AnswersFrom None (status_at end) j old new
+    by None stands = (made, stands)
+    by (Some end) stands = (made, stands)
+
+pub returns-clause-made : goal.returns-clause-made
+returns-clause-made c =
+    let m = c.self.inside.machine in
+    let new = c.step.new.machine in
+    let running : m.ended ≡ None = search rules in
+    let made : Step c.self.inside.spec (state_of m) (state_of new) = search rules in
+    let is : c.status.result ≡ status_at new.ended = search rules in
+    subst (λ (old : Progress). Answers c.status.result old.job old.state (state_of new)) c.self.view_is
+    (answers c.status.result c.self.inside.spec (state_of m) (state_of new) running is made)
 
 pub returns-clause-moment : goal.returns-clause-moment
 returns-clause-moment c =

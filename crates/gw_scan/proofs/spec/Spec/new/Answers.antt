@@ -1,12 +1,23 @@
 use Rattle.std.proofs.Common.{rules, ◌≡◌, ◌∙◌, ℕ, ◌≤◌, ◌<◌, ◌^◌, List, length, None, ap, sym, subst}
 use Rattle.std.specs.List.{All}
+use Rattle.std.proofs.lemmas.List.Elements.{All-from_recursion}
 use Rattle.gw_object.specs.declared.parts.Parts.{Parts}
 use Rattle.gw_object.specs.Grammar.{HasSpelling}
 use Rattle.gw_rules.proofs.WeightsPassing.{weights_pass_where_weighted}
 use Rattle.gw_scan.specs.Making.{spec_fault, seeds_or, count_or}
-use Rattle.gw_step.specs.Job.{JobFits, streams_of}
+use Rattle.gw_step.specs.Job.{Job, JobFits, streams_of}
 use Rattle.gw_scan.proofs.Fits.{in_range, seeds-within, length-streams, streams_fit, count-within}
 use Rattle.gw_scan.proofs.spec.Spec.new.Goals as goal
+
+pub streams_of-streams-requires : goal.streams_of-streams-requires
+streams_of-streams-requires c =
+    let own = c.args.verified.seeds in
+    let is : c.seeds_or.result.now ≡ seeds_or c.args.seeds.now own = search rules in
+    let none : spec_fault c.args.seeds.now c.args.count c.args.budget ≡ None = search rules in
+    let spelled : HasSpelling c.args.verified = rw c.object.ensures.value at c.parts-parts.ensures.limits in
+    let range = in_range c.args.seeds.now c.args.count c.args.budget none in
+    let within = seeds-within c.args.seeds.now own range.0 spelled.limits.each_seed in
+    subst (All (λ seed. seed ≤ 2147483646)) (sym is) (All-from_recursion (λ seed. seed ≤ 2147483646) (seeds_or c.args.seeds.now own) within)
 
 spelled : (c : goal.In-Ok-new) → HasSpelling c.args.verified
 spelled c = rw c.object.ensures.value at c.parts-parts.ensures.limits
@@ -50,3 +61,12 @@ invariant_of-result c = record {
       (sym c.in-Ok-new.ensures.ok) (fits c);
   decoded = search rules;
 }
+
+pub returns-in-Ok-new-clause-made : goal.returns-in-Ok-new-clause-made
+returns-in-Ok-new-clause-made c =
+    let a = c.args in
+    let job : Parts → List ℕ → ℕ → Job = λ parts streams count. record { parts = parts; streams = streams; count = count; budget = a.budget } in
+    let counted : c.count_or-count.result ≡ count_or a.count a.verified.count = search rules in
+    ap (λ parts. job parts c.streams_of-streams.result c.count_or-count.result) c.in-Ok-new.ensures.ok
+    ∙ ap (λ streams. job a.verified streams c.count_or-count.result) (made c)
+    ∙ ap (job a.verified (streams_of (seeds_or a.seeds.now a.verified.seeds))) counted

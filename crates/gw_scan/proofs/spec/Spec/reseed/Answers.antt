@@ -1,10 +1,20 @@
 use Rattle.std.proofs.Common.{rules, ◌≡◌, ◌∙◌, ℕ, ◌≤◌, ◌<◌, ◌^◌, List, length, None, ap, sym, subst}
 use Rattle.std.specs.List.{All}
+use Rattle.std.proofs.lemmas.List.Elements.{All-from_recursion}
 use Rattle.gw_scan.specs.Making.{spec_fault, seeds_or, count_or}
 use Rattle.gw_scan.specs.JobView.{job_of}
-use Rattle.gw_step.specs.Job.{JobFits, streams_of}
+use Rattle.gw_step.specs.Job.{Job, JobFits, streams_of}
 use Rattle.gw_scan.proofs.Fits.{in_range, seeds-within, length-streams, streams_fit, count-within}
 use Rattle.gw_scan.proofs.spec.Spec.reseed.Goals as goal
+
+pub streams_of-streams-requires : goal.streams_of-streams-requires
+streams_of-streams-requires c =
+    let own = c.args.self.now.parts.seeds in
+    let is : c.seeds_or.result.now ≡ seeds_or c.args.seeds.now own = search rules in
+    let none : spec_fault c.args.seeds.now c.args.count c.args.self.now.budget ≡ None = search rules in
+    let range = in_range c.args.seeds.now c.args.count c.args.self.now.budget none in
+    let within = seeds-within c.args.seeds.now own range.0 c.verified_object.ensures.fits.spelled.limits.each_seed in
+    subst (All (λ seed. seed ≤ 2147483646)) (sym is) (All-from_recursion (λ seed. seed ≤ 2147483646) (seeds_or c.args.seeds.now own) within)
 
 none : (c : goal.In-Ok-try_clone) → spec_fault c.args.seeds.now c.args.count c.args.self.now.budget ≡ None
 none c = search rules
@@ -63,3 +73,11 @@ invariant_of-result c = record {
   fits = subst JobFits (same c) (fits c);
   decoded = search rules;
 }
+
+pub returns-in-Ok-try_clone-clause-made : goal.returns-in-Ok-try_clone-clause-made
+returns-in-Ok-try_clone-clause-made c =
+    let j = c.args.self.now in
+    let job : List ℕ → ℕ → Job = λ streams count. record { parts = j.parts; streams = streams; count = count; budget = j.budget } in
+    let counted : c.count_or-count.result ≡ count_or c.args.count j.parts.count = search rules in
+    sym (same c) ∙ ap (λ streams. job streams c.count_or-count.result) (made c)
+    ∙ ap (job (streams_of (seeds_or c.args.seeds.now j.parts.seeds))) counted
