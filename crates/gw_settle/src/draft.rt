@@ -1,6 +1,6 @@
 //! A state table in the making, with what rounds over its blocks note.
 
-ghost use Rattle.std.specs.Prelude.{◌≡◌, IfOk, length, replicate, true};
+ghost use Rattle.std.specs.Prelude.{◌≡◌, IfOk, length};
 ghost use Rattle.gw_settle.specs.Drafts.{rows_held, AreNoted};
 
 use crate::known::Known;
@@ -34,28 +34,6 @@ pub(crate) struct Draft {
     pub returned: usize,
 }
 
-/// So many marks, each set.
-fn all_marked(alloc: Global, count: usize) -> Result<Vec<bool>, Memory>
-    ensures { IfOk result (λ marks. marks.items ≡ replicate count true) }
-{
-    let mut marks = Vec::with_capacity(alloc, count)?;
-    for _ in 0..count {
-        marks.push(true)?;
-    }
-    Ok(marks)
-}
-
-/// So many rows' versions: none.
-fn no_versions(alloc: Global, count: usize) -> Result<Vec<u64>, Memory>
-    ensures { IfOk result (λ versions. versions.items ≡ replicate count 0) }
-{
-    let mut versions = Vec::with_capacity(alloc, count)?;
-    for _ in 0..count {
-        versions.push(0)?;
-    }
-    Ok(versions)
-}
-
 /// A draft of these rows: each block is to be visited.
 pub(crate) fn draft_of(alloc: Global, parts: &Parts, rows: TableRows) -> Result<Draft, Memory>
     requires { length rows.blocks.items ≡ length parts.now.blocks }
@@ -63,8 +41,8 @@ pub(crate) fn draft_of(alloc: Global, parts: &Parts, rows: TableRows) -> Result<
     ensures noted { IfOk result (AreNoted parts.now) }
 {
     let count = parts.blocks.as_slice().len();
-    let marks = all_marked(alloc, count)?;
-    let versions = no_versions(alloc, count)?;
+    let marks = vec![in alloc; true; count]?;
+    let versions = vec![in alloc; 0; count]?;
     Ok(Draft {
         rows,
         marks,

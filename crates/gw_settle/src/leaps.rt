@@ -3,7 +3,7 @@
 ghost use Rattle.std.specs.Prelude.{◌≡◌, ◌≤◌, ◌<◌, IfOk, length, false};
 ghost use Rattle.gw_settle.specs.Drafts.{rows_held, held_after, AreNoted, AreRounds, DraftAdvances, DraftJumps};
 ghost use Rattle.gw_settle.specs.Keeps.{IsWell};
-ghost use Rattle.gw_settle.specs.Rounds.{AreReached};
+ghost use Rattle.gw_settle.specs.Rounds.{AreReached, change_in, round};
 ghost use Rattle.gw_settle.specs.Jumps as model;
 
 use crate::draft::{Draft, TableRows, draft_of, rows_shared};
@@ -199,6 +199,60 @@ fn jump(
     Ok(())
 }
 
+/// A second round, where the first one lowered these near rows to the next, and then a jump, if both lower amounts alone and
+/// alike.
+fn leap_on(
+    alloc: Global,
+    parts: &Parts,
+    near: &TableRows,
+    next: &TableRows,
+    draft: &mut Draft,
+    pace: &mut Pace,
+) -> Result<Change, Memory>
+    requires well { IsWell parts.now }
+    requires reached { AreReached parts.now (rows_held near.now) }
+    requires less { change_in parts.now (rows_held near.now) ≡ Change.Less }
+    requires first { rows_held draft.old.rows ≡ round parts.now (rows_held near.now) }
+    requires next { rows_held next.now ≡ rows_held draft.old.rows }
+    requires noted { AreNoted parts.now draft.old }
+    ensures rows { IfOk result (λ change.
+        model.Advances parts.now change (rows_held near.now) (rows_held draft.new.rows)) }
+    ensures noted { IfOk result (λ _. AreNoted parts.now draft.new) }
+{
+    let second = next_round(alloc, parts, draft)?;
+    if second == Change::More {
+        return Ok(Change::More);
+    }
+    jump(alloc, parts, near, next, draft, pace)?;
+    Ok(Change::Less)
+}
+
+/// Two rounds from these rows on, and then a jump, if they lower amounts alone and alike.
+fn leap(
+    alloc: Global,
+    parts: &Parts,
+    near: &TableRows,
+    draft: &mut Draft,
+    pace: &mut Pace,
+) -> Result<Change, Memory>
+    requires well { IsWell parts.now }
+    requires reached { AreReached parts.now (rows_held near.now) }
+    requires near { rows_held near.now ≡ rows_held draft.old.rows }
+    requires noted { AreNoted parts.now draft.old }
+    ensures rows { IfOk result (λ change.
+        model.Advances parts.now change (rows_held near.now) (rows_held draft.new.rows)) }
+    ensures noted { IfOk result (λ _. AreNoted parts.now draft.new) }
+{
+    let first = next_round(alloc, parts, draft)?;
+    if first != Change::Less {
+        return Ok(first);
+    }
+    let next = rows_shared(alloc, &draft.rows)?;
+    let change = leap_on(alloc, parts, near, &next, draft, pace);
+    drop(next);
+    change
+}
+
 /// One more round, or, where a leap is due, two rounds, and then a jump, if they lower amounts alone and alike.
 pub(crate) fn advance(
     alloc: Global,
@@ -216,15 +270,7 @@ pub(crate) fn advance(
         return next_round(alloc, parts, draft);
     }
     let near = rows_shared(alloc, &draft.rows)?;
-    let first = next_round(alloc, parts, draft)?;
-    if first != Change::Less {
-        return Ok(first);
-    }
-    let next = rows_shared(alloc, &draft.rows)?;
-    let second = next_round(alloc, parts, draft)?;
-    if second == Change::More {
-        return Ok(Change::More);
-    }
-    jump(alloc, parts, &near, &next, draft, pace)?;
-    Ok(Change::Less)
+    let change = leap(alloc, parts, &near, draft, pace);
+    drop(near);
+    change
 }

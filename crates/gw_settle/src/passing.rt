@@ -13,7 +13,7 @@ ghost use Rattle.gw_settle.specs.Joins.{with_state};
 ghost use Rattle.gw_settle.specs.Jumps.{row_in};
 ghost use Rattle.gw_settle.specs.Keeps.{sets_return, IsIdleAt};
 ghost use Rattle.gw_settle.specs.Known.{kind_known, params_known};
-ghost use Rattle.gw_settle.specs.Rounds.{change_of};
+ghost use Rattle.gw_settle.specs.Rounds.{change_of, sent_at};
 ghost use Rattle.gw_settle.specs.Versions as model;
 ghost use Rattle.gw_settle.specs.Versions.{SaySameBut, AgreeBut, Sets, SendsBehind};
 
@@ -263,6 +263,48 @@ fn share_version(
     is_same
 }
 
+/// Sends what a row says to the row at a place, from 0.
+fn send_known(
+    alloc: Global,
+    row: &Known,
+    place: usize,
+    rows: &mut Vec<Option<Known>>,
+) -> Result<Change, Memory>
+    requires { place < length rows.old.items }
+    ensures rows { IfOk result (λ _. rows.new.items ≡ sent_at row.now place rows.old.items) }
+    ensures change { IfOk result (λ c. c ≡ change_of row.now (row_in rows.old.items place)) }
+{
+    let state = row.lent(alloc)?;
+    let change = send_at(alloc, &state, place, rows);
+    drop(state);
+    change
+}
+
+/// Sends a row to the place, from 0, of a block, where this is its row, and it isn't known what becomes of that one's version.
+fn send_over(
+    alloc: Global,
+    sent: Sent<'_>,
+    place: usize,
+    before: &Option<Known>,
+    like: &mut Like,
+    draft: &mut Draft,
+) -> Result<Change, Memory>
+    requires place { place < length draft.old.rows.blocks.items }
+    requires mark { place < length draft.old.marks.items }
+    requires before { before.now ≡ row_in draft.old.rows.blocks.items place }
+    requires versions { AreShared sent like.old draft.old }
+    ensures sent { IfOk result (IsSentAt sent.entry.row.now place draft.old draft.new) }
+    ensures marks { IfOk result (IsMarkedAt place draft.old draft.new) }
+    ensures versions { IfOk result (λ _. AreShared sent.entry like.new draft.new) }
+{
+    let version = draft.versions[place];
+    let change = send_known(alloc, sent.row, place, &mut draft.rows.blocks)?;
+    note(change, place, &mut draft.marks, &mut draft.versions);
+    let itself = share_version(sent, change, place, &draft.rows.blocks, &mut draft.versions);
+    *like = like_of(sent, before, version, change, itself);
+    Ok(change)
+}
+
 /// Sends a row to the place, from 0, of a block whose row has a version of which it isn't known what becomes of it.
 fn send_first(
     alloc: Global,
@@ -278,14 +320,10 @@ fn send_first(
     ensures marks { IfOk result (IsMarkedAt place draft.old draft.new) }
     ensures versions { IfOk result (λ _. AreShared sent.entry like.new draft.new) }
 {
-    let version = draft.versions[place];
     let before = row_shared(&draft.rows.blocks, place)?;
-    let state = sent.row.lent(alloc)?;
-    let change = send_at(alloc, &state, place, &mut draft.rows.blocks)?;
-    note(change, place, &mut draft.marks, &mut draft.versions);
-    let itself = share_version(sent, change, place, &draft.rows.blocks, &mut draft.versions);
-    *like = like_of(sent, &before, version, change, itself);
-    Ok(change)
+    let change = send_over(alloc, sent, place, &before, like, draft);
+    drop(before);
+    change
 }
 
 /// Whether the block at a place, from 0, sends the same as before, where its row has become like others: it differs from

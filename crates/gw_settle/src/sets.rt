@@ -75,15 +75,25 @@ fn push_united(all: &mut Vec<u16>, numbers: &[u16], others: &[u16]) -> Result<()
     Ok(())
 }
 
+/// Adds the numbers of two lists to others, ascending; what the two have in common at the front is taken at once.
+fn push_all(all: &mut Vec<u16>, numbers: &[u16], others: &[u16]) -> Result<(), Memory>
+    requires numbers { AllPairs (λ a b. a < b) numbers.now }
+    requires others { AllPairs (λ a b. a < b) others.now }
+    ensures { IfOk result (λ _. all.new.items ≡ all.old.items ++ united_of numbers.now others.now) }
+{
+    let common = count_common(numbers, others);
+    all.extend_from_slice(&numbers[..common])?;
+    push_united(all, &numbers[common..], &others[common..])?;
+    Ok(())
+}
+
 /// The numbers of both lists, ascending; what they have in common at the front is taken at once.
 pub(crate) fn united(alloc: Global, numbers: &[u16], others: &[u16]) -> Result<Vec<u16>, Memory>
     requires numbers { AllPairs (λ a b. a < b) numbers.now }
     requires others { AllPairs (λ a b. a < b) others.now }
     ensures { IfOk result (λ all. all.items ≡ united_of numbers.now others.now) }
 {
-    let common = count_common(numbers, others);
     let mut all = Vec::with_capacity(alloc, numbers.len())?;
-    all.extend_from_slice(&numbers[..common])?;
-    push_united(&mut all, &numbers[common..], &others[common..])?;
+    push_all(&mut all, numbers, others)?;
     Ok(all)
 }

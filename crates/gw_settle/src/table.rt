@@ -258,6 +258,26 @@ fn edges_sent<'r>(
     Ok(edges)
 }
 
+/// The edges that the block of this number sends in its row, where its rules hold, with those of the members whom it sends
+/// on from a user chain.
+fn edges_in<'r>(
+    alloc: Global,
+    parts: &Parts,
+    number: u16,
+    block: &Block,
+    row: &'r Known,
+    members: &'r Option<Known>,
+) -> Result<Vec<FlowEdge<State<'r>>>, Memory>
+    requires number { number ≤ 4096 }
+    requires room { HasRoom row.now }
+    ensures { IfOk result (λ es. Sends parts.now number block.now row.now members.now es.items) }
+{
+    let state = row.lent(alloc)?;
+    let edges = edges_sent(alloc, parts, number, block, &state, members);
+    drop(state);
+    edges
+}
+
 /// The block of this number, from 1, that is there.
 fn block_of(parts: &Parts, number: u16) -> &Block
     requires { IsSome (block_at parts.now.blocks number) }
@@ -265,6 +285,31 @@ fn block_of(parts: &Parts, number: u16) -> &Block
     ensures number { number ≤ length parts.now.blocks }
 {
     &parts.blocks.as_slice()[number as usize - 1]
+}
+
+/// Visits the block of this number in its row, and sends the edges that it has there, with those of the members whom it sends
+/// on from a user chain.
+fn visit_by_edges(
+    alloc: Global,
+    parts: &Parts,
+    number: u16,
+    block: &Block,
+    row: &Known,
+    members: &Option<Known>,
+    draft: &mut Draft,
+) -> Result<Change, Memory>
+    requires number { number ≤ 4096 }
+    requires there { block_at parts.now.blocks number ≡ Some block.now }
+    requires may { MayVisit parts.now draft.old }
+    requires row { table_in parts.now draft.old (targets.Block number) ≡ Some row.now }
+    requires members { members.now ≡ members_at parts.now draft.old block.now }
+    ensures visited { IfOk result (IsVisit parts.now number draft.old draft.new) }
+    ensures noted { IfOk result (λ _. NotesGoOn parts.now draft.old draft.new) }
+{
+    let edges = edges_in(alloc, parts, number, block, row, members)?;
+    let change = send_all(alloc, parts, &edges, draft);
+    drop(edges);
+    change
 }
 
 /// Visits the block of this number in its row: it sends its edges, with those of the members whom it sends on from a user
@@ -294,10 +339,7 @@ fn visit_in(
         let change = visit_behind(alloc, parts, number, block, row, behind, draft)?;
         return Ok(change);
     }
-    let state = row.lent(alloc)?;
-    let edges = edges_sent(alloc, parts, number, block, &state, members)?;
-    let change = send_all(alloc, parts, &edges, draft)?;
-    Ok(change)
+    visit_by_edges(alloc, parts, number, block, row, members, draft)
 }
 
 /// Visits the block of this number, if it has a row.
