@@ -1,7 +1,8 @@
 // Stands between a program and the C library, and lets one call fail or fall short: which one, the environment says, by the
 // call's number from 1. FAIL_ALLOC refuses a request for memory; FAIL_READ and FAIL_WRITE let a read or a write fail; INTERRUPT
-// lets a read be interrupted; SHORT_READ and SHORT_WRITE let one of several bytes move one. Where it did, it makes the file that
-// FAILED_NOTE names. Used by .ci/failures.
+// lets a read be interrupted; SHORT_READ and SHORT_WRITE let one of several bytes move one; from FULL on no write takes a byte.
+// Where it did, it makes the file that FAILED_NOTE names. READ_SIZE and WRITE_SIZE are at most how many bytes each read and each
+// write moves. Used by .ci/failures.
 #define _GNU_SOURCE
 #include <errno.h>
 #include <fcntl.h>
@@ -28,7 +29,14 @@ static int is_chosen(const char *name, long *count) {
     return 1;
 }
 
-static long requests, reads, interrupts, writes, long_reads, long_writes;
+// How many bytes a call may move of those that it is asked for.
+static size_t at_most(const char *name, size_t size) {
+    long most = wanted(name);
+    return most > 0 && size > (size_t)most ? (size_t)most : size;
+}
+
+static long requests, reads, interrupts, writes, long_reads, long_writes, taken;
+static int is_full;
 
 void *malloc(size_t size) {
     if (is_chosen("FAIL_ALLOC", &requests)) {
@@ -57,7 +65,7 @@ ssize_t read(int file, void *place, size_t size) {
     }
     if (size > 1 && is_chosen("SHORT_READ", &long_reads))
         size = 1;
-    return syscall(SYS_read, file, place, size);
+    return syscall(SYS_read, file, place, at_most("READ_SIZE", size));
 }
 
 ssize_t write(int file, const void *place, size_t size) {
@@ -65,9 +73,13 @@ ssize_t write(int file, const void *place, size_t size) {
         errno = EIO;
         return -1;
     }
+    if (is_chosen("FULL", &taken))
+        is_full = 1;
+    if (is_full)
+        return 0;
     if (size > 1 && is_chosen("SHORT_WRITE", &long_writes))
         size = 1;
-    return syscall(SYS_write, file, place, size);
+    return syscall(SYS_write, file, place, at_most("WRITE_SIZE", size));
 }
 
 ssize_t __write(int file, const void *place, size_t size) {

@@ -3,8 +3,6 @@
 
 pub mod framing;
 pub mod program;
-#[cfg(test)]
-mod tests;
 pub mod words;
 
 use gw_console::{deliver, words_given};

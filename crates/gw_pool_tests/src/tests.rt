@@ -3,6 +3,7 @@
 mod boards;
 mod calls;
 mod cancels;
+mod flushes;
 mod jobs;
 mod journals;
 mod meeting;
