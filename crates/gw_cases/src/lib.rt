@@ -1,6 +1,6 @@
 //! Cases: models with what they show, as data (docs/cases.md). A script has many cases, each with a source, what is to be done
-//! with it, and what must come. Whoever runs a script gets a line for each case, and of one that fails what was wanted and what
-//! came.
+//! with it, and what must come. Of a script that is run there is a line for each case, and of one that fails what was wanted and
+//! what came; of several, which are those of subjects, how many cases of each passed.
 #![tactic(auto)]
 
 mod acts;
@@ -12,6 +12,7 @@ mod patches;
 mod rows;
 mod scripts;
 mod stop;
+mod subjects;
 mod words;
 
-pub use scripts::run_script;
+pub use subjects::run_subjects;

@@ -1,8 +1,0 @@
-use Rattle.std.proofs.Common.{◌≡◌}
-use Rattle.load.proofs.works.run_until.Given as goal
-
-abbrev pub invariant-loop : goal.invariant-loop
-invariant-loop g l =
-    (goal.iterator-loop g).can_next l.iterator'
-    × (goal.iterator-loop g).is_finite l.iterator'
-    × (l.crew.board ≡ l.fn.service)
