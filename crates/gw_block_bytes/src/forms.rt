@@ -4,8 +4,8 @@ ghost use Rattle.gw_object.specs.BlockGrammar.{generate, operand, spread, entity
 ghost use Rattle.gw_object.specs.BlockGrammar.{fraction, call, parameter_number, countdown, split, set_size, link, unlink, logic, save};
 ghost use Rattle.gw_object.specs.BlockGrammar.{priority, plus};
 ghost use Rattle.gw_object.specs.declared.blocks.Block.TheVariants as blocks;
-ghost use Rattle.gw_fields.specs.Answers.{Gives};
-ghost use Rattle.gw_fields.specs.Fields.{optional, read_as};
+ghost use Rattle.gw_block_bytes.specs.Forms.{GivesBlock};
+ghost use Rattle.gw_fields.specs.Fields.{optional};
 
 use crate::operands::{read_parameter_if_any, read_parameter_number};
 use gw_field_bytes::Spelled;
@@ -18,7 +18,7 @@ use std::alloc::Global;
 
 /// What stands behind the tag of a GENERATE.
 pub fn read_generate(alloc: Global, bytes: &[u8]) -> Result<(Block, &[u8]), ReadError>
-    ensures { Gives (λ x. (x.0, x.1.now)) result (read_as (λ x. blocks.Generate x) generate.read bytes.now) }
+    ensures { GivesBlock (λ x. blocks.Generate x) generate bytes.now result }
 {
     let ((interval, (first, (limit, priority))), rest) = Spelled::read(alloc, bytes)?;
     let generate = Generate {
@@ -32,7 +32,7 @@ pub fn read_generate(alloc: Global, bytes: &[u8]) -> Result<(Block, &[u8]), Read
 
 /// What stands behind the tag of a TERMINATE.
 pub fn read_terminate(alloc: Global, bytes: &[u8]) -> Result<(Block, &[u8]), ReadError>
-    ensures { Gives (λ x. (x.0, x.1.now)) result (read_as (λ x. blocks.Terminate x) operand.read bytes.now) }
+    ensures { GivesBlock (λ x. blocks.Terminate x) operand bytes.now result }
 {
     let (decrement, rest) = Operand::read(alloc, bytes)?;
     Ok((Block::Terminate(decrement), rest))
@@ -40,7 +40,7 @@ pub fn read_terminate(alloc: Global, bytes: &[u8]) -> Result<(Block, &[u8]), Rea
 
 /// What stands behind the tag of an ADVANCE.
 pub fn read_advance(alloc: Global, bytes: &[u8]) -> Result<(Block, &[u8]), ReadError>
-    ensures { Gives (λ x. (x.0, x.1.now)) result (read_as (λ x. blocks.Advance x) spread.read bytes.now) }
+    ensures { GivesBlock (λ x. blocks.Advance x) spread bytes.now result }
 {
     let (time, rest) = Spread::read(alloc, bytes)?;
     Ok((Block::Advance(time), rest))
@@ -48,7 +48,7 @@ pub fn read_advance(alloc: Global, bytes: &[u8]) -> Result<(Block, &[u8]), ReadE
 
 /// What stands behind the tag of a SEIZE.
 pub fn read_seize(alloc: Global, bytes: &[u8]) -> Result<(Block, &[u8]), ReadError>
-    ensures { Gives (λ x. (x.0, x.1.now)) result (read_as (λ x. blocks.Seize x) entity_number.read bytes.now) }
+    ensures { GivesBlock (λ x. blocks.Seize x) entity_number bytes.now result }
 {
     let (facility, rest) = u16::read(alloc, bytes)?;
     Ok((Block::Seize(facility), rest))
@@ -56,7 +56,7 @@ pub fn read_seize(alloc: Global, bytes: &[u8]) -> Result<(Block, &[u8]), ReadErr
 
 /// What stands behind the tag of a RELEASE.
 pub fn read_release(alloc: Global, bytes: &[u8]) -> Result<(Block, &[u8]), ReadError>
-    ensures { Gives (λ x. (x.0, x.1.now)) result (read_as (λ x. blocks.Release x) entity_number.read bytes.now) }
+    ensures { GivesBlock (λ x. blocks.Release x) entity_number bytes.now result }
 {
     let (facility, rest) = u16::read(alloc, bytes)?;
     Ok((Block::Release(facility), rest))
@@ -64,7 +64,7 @@ pub fn read_release(alloc: Global, bytes: &[u8]) -> Result<(Block, &[u8]), ReadE
 
 /// What stands behind the tag of an ENTER.
 pub fn read_enter(alloc: Global, bytes: &[u8]) -> Result<(Block, &[u8]), ReadError>
-    ensures { Gives (λ x. (x.0, x.1.now)) result (read_as (λ x. blocks.Enter x) units.read bytes.now) }
+    ensures { GivesBlock (λ x. blocks.Enter x) units bytes.now result }
 {
     let (units, rest) = Units::read(alloc, bytes)?;
     Ok((Block::Enter(units), rest))
@@ -72,7 +72,7 @@ pub fn read_enter(alloc: Global, bytes: &[u8]) -> Result<(Block, &[u8]), ReadErr
 
 /// What stands behind the tag of a LEAVE.
 pub fn read_leave(alloc: Global, bytes: &[u8]) -> Result<(Block, &[u8]), ReadError>
-    ensures { Gives (λ x. (x.0, x.1.now)) result (read_as (λ x. blocks.Leave x) units.read bytes.now) }
+    ensures { GivesBlock (λ x. blocks.Leave x) units bytes.now result }
 {
     let (units, rest) = Units::read(alloc, bytes)?;
     Ok((Block::Leave(units), rest))
@@ -80,7 +80,7 @@ pub fn read_leave(alloc: Global, bytes: &[u8]) -> Result<(Block, &[u8]), ReadErr
 
 /// What stands behind the tag of a QUEUE.
 pub fn read_queue(alloc: Global, bytes: &[u8]) -> Result<(Block, &[u8]), ReadError>
-    ensures { Gives (λ x. (x.0, x.1.now)) result (read_as (λ x. blocks.Queue x) units.read bytes.now) }
+    ensures { GivesBlock (λ x. blocks.Queue x) units bytes.now result }
 {
     let (units, rest) = Units::read(alloc, bytes)?;
     Ok((Block::Queue(units), rest))
@@ -88,7 +88,7 @@ pub fn read_queue(alloc: Global, bytes: &[u8]) -> Result<(Block, &[u8]), ReadErr
 
 /// What stands behind the tag of a DEPART.
 pub fn read_depart(alloc: Global, bytes: &[u8]) -> Result<(Block, &[u8]), ReadError>
-    ensures { Gives (λ x. (x.0, x.1.now)) result (read_as (λ x. blocks.Depart x) units.read bytes.now) }
+    ensures { GivesBlock (λ x. blocks.Depart x) units bytes.now result }
 {
     let (units, rest) = Units::read(alloc, bytes)?;
     Ok((Block::Depart(units), rest))
@@ -96,7 +96,7 @@ pub fn read_depart(alloc: Global, bytes: &[u8]) -> Result<(Block, &[u8]), ReadEr
 
 /// What stands behind the tag of an ASSIGN.
 pub fn read_assign(alloc: Global, bytes: &[u8]) -> Result<(Block, &[u8]), ReadError>
-    ensures { Gives (λ x. (x.0, x.1.now)) result (read_as (λ x. blocks.Assign x) assign.read bytes.now) }
+    ensures { GivesBlock (λ x. blocks.Assign x) assign bytes.now result }
 {
     let (parameter, rest) = read_parameter_number(alloc, bytes)?;
     let ((mode, value), rest) = Spelled::read(alloc, rest)?;
@@ -110,7 +110,7 @@ pub fn read_assign(alloc: Global, bytes: &[u8]) -> Result<(Block, &[u8]), ReadEr
 
 /// What stands behind the tag of a TEST.
 pub fn read_test(alloc: Global, bytes: &[u8]) -> Result<(Block, &[u8]), ReadError>
-    ensures { Gives (λ x. (x.0, x.1.now)) result (read_as (λ x. blocks.Test x) test_operands.read bytes.now) }
+    ensures { GivesBlock (λ x. blocks.Test x) test_operands bytes.now result }
 {
     let ((comparison, (left, (right, otherwise))), rest) = Spelled::read(alloc, bytes)?;
     let test = Test {
@@ -124,7 +124,7 @@ pub fn read_test(alloc: Global, bytes: &[u8]) -> Result<(Block, &[u8]), ReadErro
 
 /// What stands behind the tag of a GATE.
 pub fn read_gate(alloc: Global, bytes: &[u8]) -> Result<(Block, &[u8]), ReadError>
-    ensures { Gives (λ x. (x.0, x.1.now)) result (read_as (λ x. blocks.Gate x) gate.read bytes.now) }
+    ensures { GivesBlock (λ x. blocks.Gate x) gate bytes.now result }
 {
     let ((condition, (entity, otherwise)), rest) = Spelled::read(alloc, bytes)?;
     let gate = Gate {
@@ -137,7 +137,7 @@ pub fn read_gate(alloc: Global, bytes: &[u8]) -> Result<(Block, &[u8]), ReadErro
 
 /// What stands behind the tag of a TRANSFER to one block.
 pub fn read_transfer(alloc: Global, bytes: &[u8]) -> Result<(Block, &[u8]), ReadError>
-    ensures { Gives (λ x. (x.0, x.1.now)) result (read_as (λ x. blocks.Transfer x) block_number.read bytes.now) }
+    ensures { GivesBlock (λ x. blocks.Transfer x) block_number bytes.now result }
 {
     let (target, rest) = u16::read(alloc, bytes)?;
     Ok((Block::Transfer(target), rest))
@@ -145,7 +145,7 @@ pub fn read_transfer(alloc: Global, bytes: &[u8]) -> Result<(Block, &[u8]), Read
 
 /// What stands behind the tag of a TRANSFER by a fraction.
 pub fn read_transfer_by_fraction(alloc: Global, bytes: &[u8]) -> Result<(Block, &[u8]), ReadError>
-    ensures { Gives (λ x. (x.0, x.1.now)) result (read_as (λ x. blocks.TransferByFraction x) fraction.read bytes.now) }
+    ensures { GivesBlock (λ x. blocks.TransferByFraction x) fraction bytes.now result }
 {
     let ((thousandths, (otherwise, target)), rest) = Spelled::read(alloc, bytes)?;
     let fraction = Fraction {
@@ -158,7 +158,7 @@ pub fn read_transfer_by_fraction(alloc: Global, bytes: &[u8]) -> Result<(Block, 
 
 /// What stands behind the tag of a TRANSFER to a subroutine.
 pub fn read_transfer_to_subroutine(alloc: Global, bytes: &[u8]) -> Result<(Block, &[u8]), ReadError>
-    ensures { Gives (λ x. (x.0, x.1.now)) result (read_as (λ x. blocks.TransferToSubroutine x) call.read bytes.now) }
+    ensures { GivesBlock (λ x. blocks.TransferToSubroutine x) call bytes.now result }
 {
     let (target, rest) = u16::read(alloc, bytes)?;
     let (parameter, rest) = read_parameter_number(alloc, rest)?;
@@ -170,7 +170,7 @@ pub fn read_transfer_to_subroutine(alloc: Global, bytes: &[u8]) -> Result<(Block
 
 /// What stands behind the tag of a TRANSFER to where a parameter leads.
 pub fn read_transfer_by_parameter(alloc: Global, bytes: &[u8]) -> Result<(Block, &[u8]), ReadError>
-    ensures { Gives (λ x. (x.0, x.1.now)) result (read_as (λ x. blocks.TransferByParameter x) parameter_number.read bytes.now) }
+    ensures { GivesBlock (λ x. blocks.TransferByParameter x) parameter_number bytes.now result }
 {
     let (parameter, rest) = read_parameter_number(alloc, bytes)?;
     Ok((Block::TransferByParameter(parameter), rest))
@@ -178,7 +178,7 @@ pub fn read_transfer_by_parameter(alloc: Global, bytes: &[u8]) -> Result<(Block,
 
 /// What stands behind the tag of a LOOP.
 pub fn read_loop(alloc: Global, bytes: &[u8]) -> Result<(Block, &[u8]), ReadError>
-    ensures { Gives (λ x. (x.0, x.1.now)) result (read_as (λ x. blocks.Loop x) countdown.read bytes.now) }
+    ensures { GivesBlock (λ x. blocks.Loop x) countdown bytes.now result }
 {
     let (parameter, rest) = read_parameter_number(alloc, bytes)?;
     let (target, rest) = u16::read(alloc, rest)?;
@@ -187,7 +187,7 @@ pub fn read_loop(alloc: Global, bytes: &[u8]) -> Result<(Block, &[u8]), ReadErro
 
 /// What stands behind the tag of a SPLIT.
 pub fn read_split(alloc: Global, bytes: &[u8]) -> Result<(Block, &[u8]), ReadError>
-    ensures { Gives (λ x. (x.0, x.1.now)) result (read_as (λ x. blocks.Split x) split.read bytes.now) }
+    ensures { GivesBlock (λ x. blocks.Split x) split bytes.now result }
 {
     let ((copies, target), rest) = Spelled::read(alloc, bytes)?;
     Ok((Block::Split(Split { copies, target }), rest))
@@ -195,7 +195,7 @@ pub fn read_split(alloc: Global, bytes: &[u8]) -> Result<(Block, &[u8]), ReadErr
 
 /// What stands behind the tag of an ASSEMBLE.
 pub fn read_assemble(alloc: Global, bytes: &[u8]) -> Result<(Block, &[u8]), ReadError>
-    ensures { Gives (λ x. (x.0, x.1.now)) result (read_as (λ x. blocks.Assemble x) set_size.read bytes.now) }
+    ensures { GivesBlock (λ x. blocks.Assemble x) set_size bytes.now result }
 {
     let (size, rest) = u16::read(alloc, bytes)?;
     Ok((Block::Assemble(size), rest))
@@ -203,7 +203,7 @@ pub fn read_assemble(alloc: Global, bytes: &[u8]) -> Result<(Block, &[u8]), Read
 
 /// What stands behind the tag of a LINK.
 pub fn read_link(alloc: Global, bytes: &[u8]) -> Result<(Block, &[u8]), ReadError>
-    ensures { Gives (λ x. (x.0, x.1.now)) result (read_as (λ x. blocks.Link x) link.read bytes.now) }
+    ensures { GivesBlock (λ x. blocks.Link x) link bytes.now result }
 {
     let ((chain, order), rest) = Spelled::read(alloc, bytes)?;
     Ok((Block::Link(Link { chain, order }), rest))
@@ -211,7 +211,7 @@ pub fn read_link(alloc: Global, bytes: &[u8]) -> Result<(Block, &[u8]), ReadErro
 
 /// What stands behind the tag of an UNLINK.
 pub fn read_unlink(alloc: Global, bytes: &[u8]) -> Result<(Block, &[u8]), ReadError>
-    ensures { Gives (λ x. (x.0, x.1.now)) result (read_as (λ x. blocks.Unlink x) unlink.read bytes.now) }
+    ensures { GivesBlock (λ x. blocks.Unlink x) unlink bytes.now result }
 {
     let ((chain, (target, most)), rest) = Spelled::read(alloc, bytes)?;
     let unlink = Unlink {
@@ -224,7 +224,7 @@ pub fn read_unlink(alloc: Global, bytes: &[u8]) -> Result<(Block, &[u8]), ReadEr
 
 /// What stands behind the tag of a LOGIC.
 pub fn read_logic(alloc: Global, bytes: &[u8]) -> Result<(Block, &[u8]), ReadError>
-    ensures { Gives (λ x. (x.0, x.1.now)) result (read_as (λ x. blocks.Logic x) logic.read bytes.now) }
+    ensures { GivesBlock (λ x. blocks.Logic x) logic bytes.now result }
 {
     let ((action, switch), rest) = Spelled::read(alloc, bytes)?;
     Ok((Block::Logic(Logic { action, switch }), rest))
@@ -232,7 +232,7 @@ pub fn read_logic(alloc: Global, bytes: &[u8]) -> Result<(Block, &[u8]), ReadErr
 
 /// What stands behind the tag of a SAVEVALUE.
 pub fn read_savevalue(alloc: Global, bytes: &[u8]) -> Result<(Block, &[u8]), ReadError>
-    ensures { Gives (λ x. (x.0, x.1.now)) result (read_as (λ x. blocks.Savevalue x) save.read bytes.now) }
+    ensures { GivesBlock (λ x. blocks.Savevalue x) save bytes.now result }
 {
     let ((savevalue, (mode, value)), rest) = Spelled::read(alloc, bytes)?;
     let save = Save {
@@ -245,7 +245,7 @@ pub fn read_savevalue(alloc: Global, bytes: &[u8]) -> Result<(Block, &[u8]), Rea
 
 /// What stands behind the tag of a MARK.
 pub fn read_mark(alloc: Global, bytes: &[u8]) -> Result<(Block, &[u8]), ReadError>
-    ensures { Gives (λ x. (x.0, x.1.now)) result (read_as (λ x. blocks.Mark x) (optional parameter_number).read bytes.now) }
+    ensures { GivesBlock (λ x. blocks.Mark x) (optional parameter_number) bytes.now result }
 {
     let (parameter, rest) = read_parameter_if_any(alloc, bytes)?;
     Ok((Block::Mark(parameter), rest))
@@ -253,7 +253,7 @@ pub fn read_mark(alloc: Global, bytes: &[u8]) -> Result<(Block, &[u8]), ReadErro
 
 /// What stands behind the tag of a PRIORITY.
 pub fn read_priority(alloc: Global, bytes: &[u8]) -> Result<(Block, &[u8]), ReadError>
-    ensures { Gives (λ x. (x.0, x.1.now)) result (read_as (λ x. blocks.Priority x) priority.read bytes.now) }
+    ensures { GivesBlock (λ x. blocks.Priority x) priority bytes.now result }
 {
     let ((value, behind), rest) = Spelled::read(alloc, bytes)?;
     Ok((Block::Priority(Priority { value, behind }), rest))
@@ -261,7 +261,7 @@ pub fn read_priority(alloc: Global, bytes: &[u8]) -> Result<(Block, &[u8]), Read
 
 /// What stands behind the tag of a PLUS.
 pub fn read_plus(alloc: Global, bytes: &[u8]) -> Result<(Block, &[u8]), ReadError>
-    ensures { Gives (λ x. (x.0, x.1.now)) result (read_as (λ x. blocks.Plus x) plus.read bytes.now) }
+    ensures { GivesBlock (λ x. blocks.Plus x) plus bytes.now result }
 {
     let (value, rest) = Operand::read(alloc, bytes)?;
     let (parameter, rest) = read_parameter_if_any(alloc, rest)?;
@@ -270,7 +270,7 @@ pub fn read_plus(alloc: Global, bytes: &[u8]) -> Result<(Block, &[u8]), ReadErro
 
 /// What stands behind the tag of a TABULATE.
 pub fn read_tabulate(alloc: Global, bytes: &[u8]) -> Result<(Block, &[u8]), ReadError>
-    ensures { Gives (λ x. (x.0, x.1.now)) result (read_as (λ x. blocks.Tabulate x) entity_number.read bytes.now) }
+    ensures { GivesBlock (λ x. blocks.Tabulate x) entity_number bytes.now result }
 {
     let (table, rest) = u16::read(alloc, bytes)?;
     Ok((Block::Tabulate(table), rest))
