@@ -96,15 +96,23 @@ queue_labels front = contents_labels front ++ stay_labels front
 abbrev pub least_value : Table → ℕ → ℤ
 least_value t i = upper_limit t (i - 1) +ℤ pos 1
 
--- what the part of a class is called, by its number, where so many are behind it: values up to its upper limit, from
--- above that of the one before, and the last without an upper one
+-- what the part of the first class is called, by its upper limit; of the last, by its least value; and of one between them
+abbrev pub first_class : ℤ → List ℕ
+first_class limit = codes "TO " ++ signed_decimal limit ++ codes " SHARE"
+
+abbrev pub last_class : ℤ → List ℕ
+last_class least = codes "FROM " ++ signed_decimal least ++ codes " SHARE"
+
+abbrev pub class_between : ℤ → ℤ → List ℕ
+class_between least limit =
+    signed_decimal least ++ codes " TO " ++ signed_decimal limit ++ codes " SHARE"
+
+-- what the part of a class is called, by its number, where so many are behind it
 abbrev pub class_text : Table → ℕ → ℕ → List ℕ
 class_text t i left =
-    if i == 0 then codes "TO " ++ signed_decimal t.limit ++ codes " SHARE"
-    else if left == 0 then codes "FROM " ++ signed_decimal (least_value t i) ++ codes " SHARE"
-    else
-    signed_decimal (least_value t i) ++ codes " TO " ++ signed_decimal (upper_limit t i)
-    ++ codes " SHARE"
+    if i == 0 then first_class t.limit
+    else if left == 0 then last_class (least_value t i)
+    else class_between (least_value t i) (upper_limit t i)
 
 -- of the classes of a table, of which the first has this number, and of which so many are left
 unfoldable pub class_labels : Table → List ℕ → ℕ → ℕ → List Label

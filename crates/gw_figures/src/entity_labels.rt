@@ -1,7 +1,6 @@
 //! The figures of an entity, by its kind.
 
 ghost use Rattle.std.specs.Prelude.{◌≡◌, ◌≤◌, ◌<◌, ◌+◌, ◌-◌, ◌++◌, [], ◌∷◌, codes, OnOk, IfOk};
-ghost use Rattle.std.specs.Fmt.{signed_decimal};
 ghost use Rattle.gw_figures.specs.Labels as model;
 ghost use Rattle.gw_figures.specs.Labels.{AddsFigures, Label, labels, plain};
 
@@ -71,8 +70,7 @@ fn least_value(table: &Table, class: u64) -> i128
 
 /// What the part of the first class of a table is called.
 fn put_first_class(out: &mut Vec<u8>, table: &Table) -> Result<(), Memory>
-    ensures { OnOk result (out.new.items
-        ≡ out.old.items ++ codes "TO " ++ signed_decimal table.now.limit ++ codes " SHARE") }
+    ensures { OnOk result (out.new.items ≡ out.old.items ++ model.first_class table.now.limit) }
 {
     put_number(out, "TO ", table.limit)?;
     put(out, " SHARE")
@@ -80,8 +78,7 @@ fn put_first_class(out: &mut Vec<u8>, table: &Table) -> Result<(), Memory>
 
 /// What that of the last one is called, whose least value this is.
 fn put_last_class(out: &mut Vec<u8>, least: i128) -> Result<(), Memory>
-    ensures { OnOk result
-        (out.new.items ≡ out.old.items ++ codes "FROM " ++ signed_decimal least ++ codes " SHARE") }
+    ensures { OnOk result (out.new.items ≡ out.old.items ++ model.last_class least) }
 {
     put_number(out, "FROM ", least)?;
     put(out, " SHARE")
@@ -89,9 +86,7 @@ fn put_last_class(out: &mut Vec<u8>, least: i128) -> Result<(), Memory>
 
 /// What that of one between them is called, whose least value and upper limit these are.
 fn put_class_between(out: &mut Vec<u8>, least: i128, limit: i128) -> Result<(), Memory>
-    ensures { OnOk result (out.new.items
-        ≡ out.old.items ++ signed_decimal least ++ codes " TO " ++ signed_decimal limit
-        ++ codes " SHARE") }
+    ensures { OnOk result (out.new.items ≡ out.old.items ++ model.class_between least limit) }
 {
     put_number(out, "", least)?;
     put_number(out, " TO ", limit)?;

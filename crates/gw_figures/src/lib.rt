@@ -1,5 +1,8 @@
-//! The figures of a model and their values in one run (docs/planner.md): what each is called, and how much it is in a window of
-//! the run, in millionths, made of the exact numbers of the states with which the window begins and ends.
+//! The figures of a model with their names, and their values in a window of a run.
+//!
+//! It promises the names, in the order of the model's parts, and what each figure is in a window,
+//! in millionths, by the exact numbers of the states with which that begins and ends. It makes no
+//! step (docs/planner.md).
 #![tactic(auto)]
 
 mod classes;

@@ -12,7 +12,7 @@ use Rattle.gw_transactions.specs.Transactions.{IsSound}
 use Rattle.gw_entities.specs.Facility.{idle}
 use Rattle.gw_step.proofs.Nothing.{no_transaction, resides-nothing}
 use Rattle.gw_machine.specs.Configuration.{Configuration}
-use Rattle.gw_step.specs.Start.{nothing}
+use Rattle.gw_step.specs.Start.{no_counts, nothing}
 use Rattle.gw_step.specs.State.{EntityStates, State}
 use Rattle.gw_step.specs.Numbers.{AreWhole}
 use Rattle.gw_step.specs.declared.ends.End.{End}
@@ -29,7 +29,7 @@ pub record Begins (p : Parts) (n : ℕ) (ss : List ℕ) (e : Option End) (m : Co
   pub count : m.count ≡ pos n
   pub steps : m.steps ≡ 0
   pub streams : m.streams ≡ ss
-  pub scheduled : m.scheduled ≡ replicate (length p.blocks + 1) 0
+  pub scheduled : m.scheduled ≡ no_counts p
   pub transactions : m.transactions.txs ≡ None ∷ []
   pub sound : IsSound m.transactions
   pub active : m.active ≡ None
@@ -41,7 +41,7 @@ pub record Begins (p : Parts) (n : ℕ) (ss : List ℕ) (e : Option End) (m : Co
   pub chains : m.chains.lists ≡ replicate (length p.entities) []
   pub stir : m.stir ≡ false
   pub entities : AreAtStart p.entities m.entities
-  pub entries : m.entries ≡ replicate (length p.blocks + 1) 0
+  pub entries : m.entries ≡ no_counts p
   pub ended : m.ended ≡ e
 
 -- lists with no member

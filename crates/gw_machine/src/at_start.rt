@@ -1,6 +1,7 @@
 //! What a machine holds before anything is scheduled.
 
-ghost use Rattle.std.specs.Prelude.{◌≡◌, ◌≤◌, ◌+◌, [], ◌∷◌, None, length, replicate, IfOk};
+ghost use Rattle.std.specs.Prelude.{◌≡◌, ◌≤◌, [], ◌∷◌, None, replicate, IfOk};
+ghost use Rattle.gw_step.specs.Start.{no_counts};
 ghost use Rattle.gw_transactions.specs.Transactions.{IsSound};
 ghost use Rattle.gw_machine.specs.EntityTables.{AreAtStart};
 
@@ -33,8 +34,8 @@ pub(crate) struct ObjectTables {
 impl ObjectTables {
     /// Those to which nothing happened. It fails for want of memory.
     pub fn new(alloc: Global, object: &Object) -> Result<ObjectTables, Memory>
-        ensures scheduled { IfOk result (λ t. t.scheduled.items ≡ replicate (length object.now.blocks + 1) 0) }
-        ensures entries { IfOk result (λ t. t.entries.items ≡ replicate (length object.now.blocks + 1) 0) }
+        ensures scheduled { IfOk result (λ t. t.scheduled.items ≡ no_counts object.now) }
+        ensures entries { IfOk result (λ t. t.entries.items ≡ no_counts object.now) }
         ensures entities { IfOk result (λ t. AreAtStart object.now.entities t.entities) }
     {
         let blocks = object.parts().blocks.as_slice();

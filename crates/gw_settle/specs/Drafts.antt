@@ -148,9 +148,13 @@ pub record AreRounds (p : Parts) (rows later : Held) (draft : Draft) : Type 0 wh
   pub second : rows_held draft.rows ≡ round p (rows_held later)
   pub noted : AreNoted p draft
 
--- a draft became another one by rounds, and that changed so much
+-- held rows became others by rounds, and that changed so much
+abbrev pub HeldAdvance : Parts → Held → Held → Change → Type 0
+HeldAdvance p near new change = Advances p change (rows_held near) (rows_held new)
+
+-- those of a draft did
 abbrev pub DraftAdvances : Parts → Draft → Draft → Change → Type 0
-DraftAdvances p old new change = Advances p change (rows_held old.rows) (rows_held new.rows)
+DraftAdvances p old new change = HeldAdvance p old.rows new.rows change
 
 -- a draft became another one whose rows are later than some
 abbrev pub DraftJumps : Parts → Held → Draft → Draft → Type 0

@@ -1,7 +1,7 @@
 //! Leaps: many rounds at once, where each only lowers amounts, and as the one before it did.
 
 ghost use Rattle.std.specs.Prelude.{◌≡◌, ◌≤◌, ◌<◌, IfOk, length, false};
-ghost use Rattle.gw_settle.specs.Drafts.{rows_held, held_after, AreNoted, AreRounds, DraftAdvances, DraftJumps};
+ghost use Rattle.gw_settle.specs.Drafts.{rows_held, held_after, AreNoted, AreRounds, HeldAdvance, DraftAdvances, DraftJumps};
 ghost use Rattle.gw_settle.specs.Keeps.{IsWell};
 ghost use Rattle.gw_settle.specs.Rounds.{AreReached, change_in, round};
 ghost use Rattle.gw_settle.specs.Jumps as model;
@@ -215,8 +215,7 @@ fn leap_on(
     requires first { rows_held draft.old.rows ≡ round parts.now (rows_held near.now) }
     requires next { rows_held next.now ≡ rows_held draft.old.rows }
     requires noted { AreNoted parts.now draft.old }
-    ensures rows { IfOk result (λ change.
-        model.Advances parts.now change (rows_held near.now) (rows_held draft.new.rows)) }
+    ensures rows { IfOk result (HeldAdvance parts.now near.now draft.new.rows) }
     ensures noted { IfOk result (λ _. AreNoted parts.now draft.new) }
 {
     let second = next_round(alloc, parts, draft)?;
@@ -239,8 +238,7 @@ fn leap(
     requires reached { AreReached parts.now (rows_held near.now) }
     requires near { rows_held near.now ≡ rows_held draft.old.rows }
     requires noted { AreNoted parts.now draft.old }
-    ensures rows { IfOk result (λ change.
-        model.Advances parts.now change (rows_held near.now) (rows_held draft.new.rows)) }
+    ensures rows { IfOk result (HeldAdvance parts.now near.now draft.new.rows) }
     ensures noted { IfOk result (λ _. AreNoted parts.now draft.new) }
 {
     let first = next_round(alloc, parts, draft)?;
