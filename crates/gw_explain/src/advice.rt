@@ -242,7 +242,7 @@ pub const ADVICE: [(u16, &str, &str); 63] = [
     (
         65,
         "The job hasn't ended.",
-        "Let workers run it to its end, and ask again. Where gpssw pool or planner study says it: the journal was full, since slices were too short (SLICE must be at least the steps of all jobs together, divided by 520,000); or workers ran short of memory (free some, or hand in fewer jobs); or no thread could be started (let the machine have some free).",
+        "Let workers run it to its end, and ask again. Where gpssw pool says it: the journal was full, since slices were too short (SLICE must be at least the steps of all jobs together, divided by 520,000); or workers ran short of memory (free some, or hand in fewer jobs); or no thread could be started (let the machine have some free).",
     ),
     (66, "The job was cancelled.", "Hand it in again."),
     (
