@@ -1,4 +1,8 @@
-//! The program `gpssw`: simulates queueing models in GPSS World (docs/program.md).
+//! The program for machines: it assembles, checks and runs queueing models in GPSS World.
+//!
+//! It promises that what `run` writes is a function of the bytes that it reads and of its two
+//! words, and that what `pool` writes are the parts of the batch that it reads. It has words and
+//! framing; the answers are those of `gw_answers` and `gw_batch` (docs/program.md).
 #![tactic(auto)]
 
 pub mod framing;

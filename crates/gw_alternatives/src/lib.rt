@@ -1,4 +1,7 @@
-//! Studies of alternatives: of a model with other numbers, and of two models (docs/planner.md).
+//! Studies of alternatives: of a model with other numbers, and of two models.
+//!
+//! It promises that each alternative is the text but for its numbers, that its runs are those of a
+//! study, and that differences are by pairs of these. It makes no run of its own (docs/planner.md).
 #![tactic(auto)]
 
 mod alternative;

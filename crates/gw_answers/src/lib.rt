@@ -1,6 +1,8 @@
-//! What the program has to say of one input: from the bytes of a model text or of an object to a text and a status; and
-//! verdicts in words, the text of a refusal with the name of its code, and that of an accepted object (docs/program.md). It
-//! reads and writes nothing. For what planners ask of a model it makes the job of a model text and runs it (docs/planner.md).
+//! What the program has to say of one input: from bytes to a text and a status.
+//!
+//! It promises that a text and a status are what the bytes, a seed and a count determine, and has
+//! the words of refusals and of an accepted object. For what planners ask it makes the job of a
+//! model text. It reads and writes nothing (docs/program.md).
 #![tactic(auto)]
 
 mod acceptance;

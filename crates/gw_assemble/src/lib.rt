@@ -1,4 +1,9 @@
-//! The assembler: a model text becomes an object that the verifier accepts (docs/model-text.md).
+//! The assembler: from a model text to an object that the verifier accepts.
+//!
+//! It promises an accepted object that the text becomes, with the table of `gw_settle`, or the
+//! first refusal: those of flow come as `gw_settle` says, and those of weights only where no
+//! weights pass with that table, with slopes or without. It knows of no step and no state
+//! (docs/model-text.md).
 #![tactic(auto)]
 
 mod assembling;

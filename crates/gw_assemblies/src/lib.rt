@@ -1,7 +1,8 @@
-//! The assemblies of a simulation: who waits for the rest of an assembly set.
+//! The register of assemblies: who waits for the rest of an assembly set, and at which block.
 //!
-//! Contracts see them as a list in the order in which they were begun, and the room that is reserved for more.
-//! Only `reserve` takes memory; a beginning asks for room and can't fail.
+//! It promises that one who waits is found by the block and the set, and that after `reserve(n)`
+//! the next `n` assemblies begin without memory. Contracts see a list in the order in which they
+//! were begun. Of transactions it knows what `gw_members` says, and of chains nothing.
 #![tactic(auto)]
 
 mod assemblies;

@@ -1,5 +1,8 @@
-//! What `pool` does with a batch of objects: window by window, their jobs are submitted to a service, its workers run them, and each
-//! has its part of what is written, in order (docs/program.md). It reads nothing.
+//! What `pool` writes of a batch of objects, whose jobs services run, window by window.
+//!
+//! It promises a part for each entry, in order: the report of the final state of its job's lone
+//! run, or its refusal. It stands on the contracts of `submit`, `run_workers` and `collect`, and on
+//! nothing of how a service does its work. It reads nothing (docs/program.md).
 #![tactic(auto)]
 
 mod answer;

@@ -1,5 +1,8 @@
-//! Blocks in bytes: how they and their operands are put, read and tested against the limits of the object format
-//! (docs/object-format.md).
+//! Blocks in bytes: put, read, and tested against the limits of the object format.
+//!
+//! It promises that each operand and each block is put as it is spelled, and read as its reading
+//! says, and that its test of limits says which have a spelling. Crates that take an object as it
+//! is know nothing of it (docs/object-format.md).
 #![tactic(auto)]
 
 mod blocks;

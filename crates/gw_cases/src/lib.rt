@@ -1,6 +1,8 @@
-//! Cases: models with what they show, as data (docs/cases.md). A script has many cases, each with a source, what is to be done
-//! with it, and what must come. Of a script that is run there is a line for each case, and of one that fails what was wanted and
-//! what came; of several, which are those of subjects, how many cases of each passed.
+//! Cases as data: models with what they show, run and compared, by their scripts.
+//!
+//! A script has cases, each with a source, what is done with it, and what must come; a case that is
+//! run has a line, and one that fails what was wanted and what came. It promises that a case passes
+//! exactly where something was asked and nothing differed (docs/cases.md).
 #![tactic(auto)]
 
 mod acts;

@@ -1,7 +1,9 @@
-//! The chains that a machine keeps by priority or by time: lists of transactions, each in its order.
+//! The chains that a machine keeps by priority or by time: events chains, delay lists and the retry
+//! list.
 //!
-//! Contracts see a chain as the list of its members and the room that is reserved for more.
-//! Only `reserve` takes memory; an insertion asks for room and can't fail.
+//! It promises that each chain is its list, that after `reserve(n)` the next `n` insertions take no
+//! memory, and that a walk over a delay list comes to its members in order, where each is passed or
+//! taken out. Of transactions it knows what `gw_members` says.
 #![tactic(auto)]
 
 mod bucket;

@@ -1,4 +1,8 @@
-//! The charts of a model's run, for planners: an SVG document, and its points as records (docs/planner.md).
+//! The contents of a run over time, as a picture and as records.
+//!
+//! It promises that what it shows is that of the lone run, and where each panel, number and stroke
+//! stands. It runs its job twice: the first time to learn the clock at the end, the second to look
+//! at the entities after each move of the clock (docs/planner.md).
 #![tactic(auto)]
 
 mod axis;

@@ -1,4 +1,8 @@
-//! The checks of PLUS code: which code can do what it does without getting stuck, and what it costs (docs/plus-code.md).
+//! The checks of PLUS code: which code never gets stuck, and what it costs.
+//!
+//! It promises that code is accepted exactly where its rules hold, and else refused with the first
+//! that is broken; it takes no memory. What code comes to is for `gw_rules` to say
+//! (docs/plus-code.md).
 #![tactic(auto)]
 
 mod check;

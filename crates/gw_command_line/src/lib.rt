@@ -1,4 +1,8 @@
-//! The command line of the program `planner`: what its words ask for (docs/planner.md).
+//! The words of the planner's command line, and what they ask for.
+//!
+//! It promises that any words have the command of the definition, with options in any order, each
+//! at most once. It knows which codes there are to explain, and answers nothing itself
+//! (docs/planner.md).
 #![tactic(auto)]
 
 mod options;

@@ -1,4 +1,8 @@
-//! Points of a study beside one another: differences by pairs of runs, and tables, CSV and pictures of them (docs/planner.md).
+//! Points of a study beside one another: differences by pairs of runs, CSV, and pictures.
+//!
+//! It promises what the differences of a point to another say, by the definitions of
+//! `gw_statistics`, the records of CSV, and the places in a picture. It makes no run: it is given
+//! what runs say (docs/planner.md).
 #![tactic(auto)]
 
 mod accounts;

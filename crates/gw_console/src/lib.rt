@@ -1,5 +1,7 @@
-//! What programs of this repository have in common: they read all of an input, answer it, write the answer whole or a front of it,
-//! and end with a status that tells what became of both (docs/program.md).
+//! What programs have in common: reading all of an input, delivering an answer, and statuses.
+//!
+//! It promises what a status tells of reads and writes, and that an answer is written whole, or a
+//! front of it. It knows of no command (docs/program.md).
 #![tactic(auto)]
 
 mod delivering;

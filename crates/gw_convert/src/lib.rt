@@ -1,4 +1,8 @@
-//! A model in GPSS World's text, written in the language of this project (docs/planner.md, "convert").
+//! A model in GPSS World's text, written in this language: exactly, nearly or left, line by line.
+//!
+//! It promises that behind a head there is a piece for each line of the text, in order, and that a
+//! line without a statement is its own piece; which operands are times, and what marks a rule has.
+//! What a converted model does is no matter of a proof (docs/planner.md, "convert").
 #![tactic(auto)]
 
 mod changes;

@@ -1,8 +1,8 @@
-//! The entities of a model: facilities, storages, queues, logic switches, savevalues and tables, each with what the report
-//! says of it.
+//! The entities of a model: facilities, storages, queues, logic switches, savevalues and tables.
 //!
-//! A call names an entity by its number in the object, from 0. Only `new` takes memory. What the rules of a block ask for is a
-//! condition of its call: in an accepted object it holds wherever the block is met (docs/machine.md, "Well-typed states").
+//! It promises that each has the value that the calls on it make, by one function a call, and that
+//! only `new` takes memory. What a block's rules ask for is a condition of its call
+//! (docs/machine.md, "Well-typed states"). It knows nothing of who waits.
 #![tactic(auto)]
 
 mod average;

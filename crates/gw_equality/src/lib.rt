@@ -1,4 +1,7 @@
 //! What `==` answers of parts of objects and of jobs: true exactly where they are equal.
+//!
+//! It promises this of the derived `==` of operands, blocks, instructions, procedures, entities and
+//! rows of the state table, and so of what is compared of two jobs. It has laws alone.
 #![tactic(auto)]
 
 mod laws;

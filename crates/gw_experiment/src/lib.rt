@@ -1,4 +1,8 @@
-//! Experiments: what comment lines of a model ask for, and its division into shares (docs/planner.md).
+//! Experiments: what comment lines of a model ask for, and their division into shares.
+//!
+//! It promises which experiment the lines ask for, or the first that can't be taken, and that all
+//! shares together have all jobs, each once, in order. It reads nothing but these lines, and makes
+//! no run (docs/planner.md).
 #![tactic(auto)]
 
 mod draft;

@@ -1,5 +1,9 @@
-//! Model texts and objects explained to planners: what is wrong with one that is refused, on which lines, and how to mend it; and
-//! what one that is accepted has; and what each code of a refusal means (docs/planner.md).
+//! Model texts and objects explained: what is wrong, where, what is known there, and how to mend
+//! it.
+//!
+//! It promises the refusal's line, the lines of the text that it is about, and the words on its
+//! code, which every code has; of what is accepted, the line that says so. That the words are the
+//! right ones is tested (docs/planner.md).
 #![tactic(auto)]
 
 pub mod advice;

@@ -1,4 +1,8 @@
-//! Fields put into bytes and read from them: numbers, counts, optional values and lists, as `gw_fields` defines them.
+//! Fields of a format, put into bytes and read from them as `gw_fields` defines them.
+//!
+//! It promises that each field is put as it is spelled, into whatever takes bytes (`Receiver`: a
+//! vector keeps them, a room counts them), and read as its reading says: the value and the bytes
+//! after it, or the first fault. It knows of no format.
 #![tactic(auto)]
 
 mod choices;

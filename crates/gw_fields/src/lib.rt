@@ -1,7 +1,8 @@
-//! Fields of a format: how numbers, counts, optional values and lists are spelled in bytes, each in one way.
+//! Fields of a format, as definitions: how numbers, counts, optional values and lists stand in
+//! bytes, each in one way.
 //!
-//! It knows of no format: what an object consists of is `gw_object`'s. The bodies that put and read fields are
-//! `gw_field_bytes`'s.
+//! It knows of no format: what an object consists of is for `gw_object` to say. The bodies that put
+//! and read fields are those of `gw_field_bytes`.
 #![tactic(auto)]
 
 pub mod codes;

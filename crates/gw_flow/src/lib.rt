@@ -1,4 +1,9 @@
-//! Flow: what is known of a transaction at every block, and whether that is enough for it to pass.
+//! The checks of flow: whether what is known of a transaction in each row of the state table
+//! suffices.
+//!
+//! It promises that flow passes exactly where each block's rules hold in its row, and what is known
+//! of a transaction fits the row of where it goes on; and, of a block in any state, its flow edges.
+//! Where the table comes from it doesn't know.
 #![tactic(auto)]
 
 mod abstract_state;

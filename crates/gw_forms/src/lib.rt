@@ -1,5 +1,8 @@
-//! Forms of GPSS World that this language hasn't: what each is there, what stands in its place here, and where one stands on a line
-//! (docs/guide.md, "From GPSS World to here").
+//! Forms of GPSS World that are left out: what each is, what stands in its place, and where one
+//! stands.
+//!
+//! It promises that the place of a form that it finds is one of the line; which form stands there
+//! is its own. It knows of tokens and of no model (docs/guide.md, "From GPSS World to here").
 #![tactic(auto)]
 
 mod attributes;

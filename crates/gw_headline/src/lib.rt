@@ -1,4 +1,8 @@
-//! The headline of the project, as a law over the definitions alone (docs/headline.md).
+//! The headline of the project, as a law over the definitions alone.
+//!
+//! It promises that jobs of accepted objects run without an error stop and within their weights,
+//! alone and as rows of a service (docs/headline.md). It has one law and no other code, and nothing
+//! stands on it.
 #![tactic(auto)]
 
 mod laws;

@@ -1,4 +1,8 @@
-//! The job table: the jobs of many users, the tasks in which workers own them, and the replies that users get (ours: docs/service.md).
+//! The job table: many users' jobs, tasks, slices and journal.
+//!
+//! It promises that a table is a service as `gw_service` says, that each task and each row has the
+//! state of its job's lone run after as many steps (an ended row perhaps just its end and report),
+//! and that a reply tells the final one. It knows nothing of threads (ours: docs/service.md).
 #![tactic(auto)]
 
 mod conclusion;

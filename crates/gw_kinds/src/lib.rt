@@ -1,4 +1,7 @@
-//! Kinds: whether every number in an object names something of its kind.
+//! The checks of kinds: whether every number in an object names something of its kind.
+//!
+//! It promises to accept exactly where that is so, and else to name the first place at fault with
+//! its lowest code. It takes an object as it is, and knows of no bytes and no flow.
 #![tactic(auto)]
 
 mod blocks;

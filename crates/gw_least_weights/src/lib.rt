@@ -1,4 +1,7 @@
-//! The least weights that keep rules, each of which asks at a place for sums of weights at other places.
+//! The least weights that keep rules, each of which asks at a place for sums of weights at others.
+//!
+//! It promises that where any weights keep the rules, those found do, each at most the other's. It
+//! knows of no object but the greatest weight.
 #![tactic(auto)]
 
 mod causes;

@@ -1,6 +1,8 @@
-//! Users who call services from four threads while workers run, and a model of the table, kept beside it, with which each reply is
-//! compared (docs/service.md). A round is a service with up to 1,024 jobs. At last a job with a dear start is submitted while another
-//! user's jobs are run.
+//! Users who call services from four threads, each reply compared with a model of the table.
+//!
+//! A round is a service with up to 1,024 jobs, and workers beside the users. At last a job with a
+//! dear start is submitted while another user's jobs are run. Each thread has its own model and
+//! knows of its own jobs alone (docs/service.md).
 #![tactic(auto)]
 
 mod acts;

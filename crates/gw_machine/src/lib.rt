@@ -1,4 +1,8 @@
-//! The state of a job in memory: its elementary changes, and what blocks read of it.
+//! The state of a job in memory: its elementary changes, and what is read of it.
+//!
+//! It promises that each change in memory is one of the state of the definitions, to which
+//! `state_of` leads; that its handles lead where they should is in its type. Of blocks it knows
+//! those that a waiter stands at, and of long delay lists who wants what (`wants`, `least`).
 #![tactic(auto)]
 
 mod assembling;

@@ -1,4 +1,8 @@
-//! What the statements of a model text use by name (docs/model-text.md).
+//! What the statements of a model text use by name.
+//!
+//! It promises the uses in the order of the text: the entity that a label declares, operands, and
+//! what a PROCEDURE does; inside one its arguments and the temporaries declared above are no uses.
+//! What a name stands for is for `gw_names` to say (docs/model-text.md).
 #![tactic(auto)]
 
 mod expressions;

@@ -1,4 +1,9 @@
-//! The names of a model text, and the numbers that they have in the object which it becomes.
+//! The names of a model text, their numbers, and which uses of them are refused.
+//!
+//! It promises entities their places in order of first sight, and named parameters the lowest
+//! numbers that the text doesn't use; a label stands for its last block, another name for its last
+//! declaration. It promises which uses are refused, at which line, and that a ledger keeps the
+//! first refusal.
 #![tactic(auto)]
 
 pub mod codes;

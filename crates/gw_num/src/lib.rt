@@ -1,5 +1,8 @@
-//! Whole numbers and random numbers: arithmetic that gives the mathematical value or a named fault, streams of random
-//! numbers from one fixed generator, and the numbers that words of a command line spell. No call takes memory. The rules are ours: docs/numbers.md.
+//! Exact arithmetic on whole numbers, streams of random numbers, and the numbers that words of a
+//! command line spell.
+//!
+//! It promises the mathematical value or a named fault, and the numbers of one fixed generator. No
+//! call takes memory. The rules are ours: docs/numbers.md.
 #![tactic(auto)]
 
 mod arithmetic;

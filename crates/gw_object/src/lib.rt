@@ -1,7 +1,9 @@
-//! The object: its blocks with their operands, PLUS code, and its other parts, and the grammar of their one spelling in bytes
-//! (docs/object-format.md). Blocks are put and read by `gw_block_bytes`, code by `gw_code_bytes`, and the whole object is made
-//! of parts, read and written by `gw_object_bytes`. What code does is `gw_rules`' to say, and which is accepted
-//! `gw_code_flow`'s.
+//! The object: its blocks with their operands, its procedures and other parts, and the grammar of
+//! their bytes.
+//!
+//! It promises that an `Object` keeps the format's limits, so no crate above tests them again. It
+//! says how parts are spelled, and no body of it reads or writes bytes. What a number in a block
+//! names is judged above (docs/object-format.md).
 #![tactic(auto)]
 
 mod blocks;

@@ -1,4 +1,8 @@
-//! Objects in bytes: how one is made of parts, read and written, and the laws of that (docs/object-format.md).
+//! Objects in bytes: built of parts, read and written, and the laws of that.
+//!
+//! It promises that parts are accepted exactly where they have a spelling, that an object is
+//! written as its one spelling and read from it, and that a refusal names the first fault by code
+//! and byte. What passes the verifier it doesn't know (docs/object-format.md).
 #![tactic(auto)]
 
 mod building;

@@ -1,4 +1,8 @@
-//! The page of planners: requests of HTTP/1.1 and their answers, over any reader and writer (docs/page.md).
+//! The page of planners: requests of HTTP and their answers, with limits counted beforehand.
+//!
+//! It promises that what was written to a peer answers the requests that were read from it, in
+//! order, and that a run which is answered was counted first and found within the limits. It knows
+//! of no socket: any reader and any writer will do (docs/page.md).
 #![tactic(auto)]
 
 mod answering;

@@ -1,6 +1,8 @@
-//! Chains whose bodies are shorter to understand, and what both bodies of a chain do: the one that a machine uses, and the plain one.
+//! Bodies of chains that are shorter to understand, and the calls that both bodies of a chain
+//! answer alike.
 //!
-//! Calls on a chain are answered alike by both; no program stands on the plain ones.
+//! It promises that whatever the body of a chain is, calls leave of it and answer what the list of
+//! its members says. Nothing but tests uses it.
 #![tactic(auto)]
 
 mod calls;

@@ -1,5 +1,8 @@
-//! What planners ask of a model text, or of an object, that is held in memory, and what answers it: a text and a status
-//! (docs/planner.md).
+//! What the planner's commands answer about a text in memory, and that summaries are studies.
+//!
+//! It promises that each question is answered as the crates below define it, and as a law that the
+//! summary of the rows of all runs of a model is its study. It reads no input and hands its answers
+//! back; notes and progress alone go to standard error (docs/planner.md).
 #![tactic(auto)]
 
 mod answering;

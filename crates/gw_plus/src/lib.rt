@@ -1,5 +1,8 @@
-//! PLUS evaluation: procedures of a verified object are evaluated with no test that its checks have made needless, and with
-//! no memory (docs/plus-code.md).
+//! PLUS evaluation: procedures of a verified object, evaluated without memory and without a test
+//! that checks made needless.
+//!
+//! It promises that `eval` answers the outcome that PLUS evaluation gives, in an environment that
+//! is lent to it. It knows of no state of a job (docs/plus-code.md).
 #![tactic(auto)]
 
 mod activation;

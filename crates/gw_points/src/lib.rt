@@ -1,4 +1,8 @@
-//! Numbers put into a model text by the names before them: what `NURSES=2,3` asks for (docs/planner.md).
+//! Numbers put into a model text by the names before them, as `NURSES=2,3` asks for.
+//!
+//! It promises that the text of a point has the lines of the model but for the digits of its
+//! numbers, or a refusal by code and name. It knows of tokens and a few words, and reads no model
+//! (docs/planner.md).
 #![tactic(auto)]
 
 mod fault;

@@ -1,5 +1,9 @@
-//! A service that many threads share: a job table with the books of two ledgers under one lock, a board on which the progress
-//! of jobs is told, and the workers that run its jobs (ours: docs/service.md).
+//! A service that threads share: a job table with ledgers under one lock, a progress board, and
+//! workers.
+//!
+//! It promises that a shared table answers as its table does, a share counts what it took and gave
+//! back, the board never tells a seat less than it knew, and workers lose no task and no step.
+//! Workers know of no user: who submits or collects takes the lock (ours: docs/service.md).
 #![tactic(auto)]
 
 mod board;

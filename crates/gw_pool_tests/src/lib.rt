@@ -1,5 +1,8 @@
-//! Tests of jobs, of the job table, of shares and the progress board, and of workers: worked examples, and threads that publish
-//! and read side by side; and of an answer that can't be flushed. What models do is in the cases (docs/cases.md).
+//! The tests of jobs, the job table, shares, the board and workers, and of an answer that can't be
+//! flushed.
+//!
+//! They are worked examples, and threads that publish and read side by side. What models do is in
+//! the cases (docs/cases.md).
 #![tactic(auto)]
 
 #[cfg(test)]

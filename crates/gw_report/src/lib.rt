@@ -1,5 +1,7 @@
-//! The figures of a job's state, exact; and the report that they make: one line for how it stands, one for each block, and those
-//! of each entity.
+//! The figures of a job's state, exact, and the report text that they make.
+//!
+//! It promises that the figures are the numbers of the state, and that the text is what they make.
+//! The layout stands here alone (docs/report.md). It makes no step.
 #![tactic(auto)]
 
 mod average;

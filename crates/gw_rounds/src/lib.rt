@@ -1,4 +1,8 @@
-//! Rounds of blocks on which no time passes, and why such a round has no weight certificate (docs/weights.md).
+//! Rounds of blocks on which no time passes, and what keeps weights from counting them.
+//!
+//! It promises that the blocks of a round that it finds are one. It knows of exits and of a state
+//! table, and of no weights; which round it finds, and why that has no certificate, is its own
+//! (docs/weights.md).
 #![tactic(auto)]
 
 mod causes;

@@ -1,7 +1,8 @@
-//! Rows of runs: what is kept of one run of a study, exactly, and of what it is a run, as a line of CSV (docs/planner.md).
+//! A run as a row of CSV, exactly, and rows read again; a refusal as a row.
 //!
-//! A row is a function of the run alone, so that rows that were made anywhere and in any order can be put together again. The
-//! first line before rows says what their fields are. What a model is refused with is a row too.
+//! It promises that a line which is taken for a row is written so, byte for byte, from what it was
+//! taken for, and that rows with one text are of one run. A row is a function of the run alone; it
+//! knows of no order of rows (docs/planner.md).
 #![tactic(auto)]
 
 mod amounts;

@@ -1,6 +1,9 @@
-//! Operands, and the rules of the verifier: what is evaluated for an operand, which parameters it asks for, and what its PLUS
-//! code does (docs/plus-code.md); what is checked of an object, what holds of what passes, and the type of an object that
-//! was accepted. Definitions, laws and types alone but for what operands are read by: the tests stand in the crates above.
+//! What operands and PLUS code come to, what the verifier checks of an object, and the accepted
+//! object's type.
+//!
+//! It promises the laws of what passes: PLUS code never gets stuck, and a `Verified` object breaks
+//! no check. It finds out nothing, and has no evaluator: the crates above do both. Of a job's state
+//! it knows what an environment lends (docs/plus-code.md).
 #![tactic(auto)]
 
 mod asking;

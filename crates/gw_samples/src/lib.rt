@@ -1,5 +1,7 @@
-//! What the tests of several crates are made of: whole objects, as their bytes, with the reports of their jobs; and what a test
-//! compares of many answers at once.
+//! What tests of several crates are made of: objects as their bytes, with their reports.
+//!
+//! It has bytes and texts, and no type of an object, so it stands below whatever it is used to
+//! test. Of many comparisons it finds the first that is wrong.
 #![tactic(auto)]
 
 mod answers;

@@ -1,4 +1,8 @@
-//! The step machine: a job, its simulation state, and its steps.
+//! The step machine: a job, what it runs, and its steps.
+//!
+//! It promises that equal specs are the same job, that a `Sim` is in the state that its job's lone
+//! run has after as many steps, and that `step` makes the one step of the step relation. The loop
+//! of steps stands here once (`Sim::run_slice`), for tasks and for lone runs.
 #![tactic(auto)]
 
 mod assigning;

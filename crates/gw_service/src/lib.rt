@@ -1,4 +1,9 @@
-//! The service machine: many users' jobs in one table. What the calls of the table answer and make of its rows, and the laws of that; the table itself is no part of it.
+//! What a service of many users' jobs is and does: rows, journal, calls, and their laws.
+//!
+//! It promises the laws, of which no table is part: what a user is told and what becomes of the
+//! user's rows follows from those rows alone, the journal replays, limits and totals are kept, and
+//! each row's steps are its lone run's. It has the refusals and how a job stands, and no other
+//! code.
 #![tactic(auto)]
 
 mod faults;

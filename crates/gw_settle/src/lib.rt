@@ -1,4 +1,10 @@
-//! The assembler's state table: what is known of a transaction at every block, found from the blocks alone.
+//! The assembler's state table: what is known of a transaction at every block, found from the
+//! blocks alone.
+//!
+//! It promises an object the table that its rounds compute, with which flow passes; each row fits
+//! that of every table that passes, so where any does, no refusal is one of flow (unless a kept
+//! return is added to or subtracted from). It stands beside `gw_weights`, on `gw_flow`'s states,
+//! rules and edges.
 #![tactic(auto)]
 
 mod amounts;

@@ -1,4 +1,8 @@
-//! Runs of a model's points as rows, and the object of one run: what is made on any of many machines (docs/planner.md).
+//! Runs of a model's points, or of a share of an experiment, as rows, and the object of a run.
+//!
+//! It promises the rows of lone runs with the seeds that a study gives them, whichever machine
+//! makes them, or a refusal as a row. What rows tell together is for `gw_summary` to say
+//! (docs/planner.md).
 #![tactic(auto)]
 
 pub mod laws;

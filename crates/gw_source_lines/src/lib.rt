@@ -1,4 +1,7 @@
-//! Where the blocks, the entities and the procedures of the object that a model text becomes stand in the text.
+//! At which lines of a model text its blocks, entities and procedures stand.
+//!
+//! It promises the line of each, by the assembler's own order. It knows of no weights and no state
+//! table.
 #![tactic(auto)]
 
 mod inputs;

@@ -1,5 +1,8 @@
-//! What repeated runs say of one figure: its mean, its least and greatest value, and how far the mean may lie from the true
-//! one (docs/planner.md). All is whole numbers: values are of one unit, as millionths.
+//! What repeated runs say of one figure: its mean, how sure that is, and differences by pairs of
+//! runs.
+//!
+//! It promises means and half-widths by their definitions, in whole numbers of one unit, as
+//! millionths. It knows of no model (docs/planner.md).
 #![tactic(auto)]
 
 mod confidence;

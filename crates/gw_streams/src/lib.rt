@@ -1,8 +1,8 @@
-//! Readers and writers that remember what became of their calls, so that a contract can say that a failure was told, and
-//! that nothing was left without a flush.
+//! Readers and writers that remember what became of their calls.
 //!
-//! Contracts see a reader as the bytes that it has left, and a writer as those that it holds, where it tells them. After a
-//! call that failed no other is made: that one was interrupted is a failure like any other, and isn't tried again.
+//! Contracts see a reader as the bytes that it has left, and a writer as those that it holds. What
+//! it says of its calls (whether one failed, whether bytes wait for a flush) is what became of
+//! them. After a call that failed no other is made; an interrupted one isn't tried again.
 #![tactic(auto)]
 
 mod input;

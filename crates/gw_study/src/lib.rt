@@ -1,4 +1,7 @@
-//! A study: a model is run many times with other random numbers, by threads, and what each figure is in the runs is summed up
+//! Many runs of a model with other random numbers, by threads, and what their figures say.
+//!
+//! It promises a row for each figure of the model, which tells what its values say in the lone runs
+//! that came to their count. It asks no service: threads make its runs, and it keeps their values
 //! (docs/planner.md).
 #![tactic(auto)]
 

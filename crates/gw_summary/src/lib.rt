@@ -1,5 +1,7 @@
-//! The summary of rows of runs: what a study tells of the same runs, whoever made the rows and in whatever order they come
-//! (docs/planner.md).
+//! Rows of one study, in any order, and what they tell.
+//!
+//! It promises the table of a study of just the runs whose rows came, none lost and none made up,
+//! or a refusal. It makes no run, and doesn't know who made the rows (docs/planner.md).
 #![tactic(auto)]
 
 mod fault;

@@ -1,4 +1,8 @@
-//! The model text: what a planner writes, read into a list of statements (docs/model-text.md).
+//! The model text: what a planner writes, read into a list of statements on their lines.
+//!
+//! It promises that each line with a statement is read into one, of the word that its head spells,
+//! in order, with short lines, labels that differ, few blocks and one START behind them; a refusal
+//! names a line. That operands are read as docs/model-text.md says is tested, not proved.
 #![tactic(auto)]
 
 mod model;

@@ -1,4 +1,7 @@
-//! The bottom of reading a model text: its lines, tokens, names and words, and what is wrong with a line.
+//! The bottom of the model text: lines, tokens, names, words, and what is wrong with a line.
+//!
+//! It promises the lines of a text, which of them hold no statement, the number that digits spell,
+//! and the lowest refusal of a line. Of a statement it knows the word.
 #![tactic(auto)]
 
 mod characters;

@@ -1,4 +1,8 @@
-//! The transactions of a job: each is kept under a number of its own, and contracts see tables by number.
+//! The slab of a job's live transactions, which contracts see as tables by number.
+//!
+//! It gives and takes attributes, lends parameters, one by one or all that are listed, and takes
+//! values that are set and the user chain of a member; each call leaves the other transactions as
+//! they were. A handle that is held leads to its transaction until it is removed.
 #![tactic(auto)]
 
 ghost use Rattle.std.specs.Prelude.{◌≡◌, ◌≤◌, ℕ, pos, None, Some, ◌<◌, ◌+◌, ◌^◌, ◌∷◌, [], length, unwrap_or, IfOk, OnOk, OnErr, IsPermutation};

@@ -1,5 +1,8 @@
-//! Trials of what no contract says: objects that are damaged, and calls and workers that are refused memory (docs/failures.md). Each
-//! prints what came of it, and answers whether that is right.
+//! Objects that are damaged, and calls and workers that are refused memory, with what becomes of
+//! that.
+//!
+//! It promises that what is said of damaged bytes is so. Each trial prints what came of it, and
+//! answers whether that is right (docs/gate.md).
 #![tactic(auto)]
 
 mod calls;

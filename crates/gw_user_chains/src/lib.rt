@@ -1,7 +1,8 @@
 //! The user chains of a simulation.
 //!
-//! Contracts see each chain as the list of its members and the room that is reserved for more.
-//! Only `reserve` takes memory; an insertion asks for room and can't fail.
+//! It promises that each chain is its list, and that after `reserve(n)` the next `n` insertions
+//! take no memory: an insertion asks for room and can't fail. Of transactions it knows what
+//! `gw_members` says, and of other chains nothing.
 #![tactic(auto)]
 
 mod user_chains;

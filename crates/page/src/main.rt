@@ -1,5 +1,8 @@
-//! The program `page`: the page of planners, over standard input and output, one connection a process. Who listens is another
-//! program: systemd's socket unit, inetd or socat (docs/page.md).
+//! The program for browsers: the page of planners over standard input and output, one connection a
+//! process.
+//!
+//! It hands both to `gw_page`. Who listens is another program: systemd's socket unit, inetd or
+//! socat (docs/page.md).
 #![tactic(auto)]
 
 use gw_answers::status::{ENDED, FAILED, NO_MEMORY};

@@ -1,4 +1,8 @@
-//! The program `planner`: what planners ask of a model at their desks (docs/planner.md).
+//! The program for people, at their desks: it explains, shows, runs and studies models.
+//!
+//! It promises that each command answers what its question asks of the input, or of its front where
+//! that is too long, and that other words give the usage. It reads and delivers; the answers are
+//! those of `gw_planner` and `gw_summary` (docs/planner.md).
 #![tactic(auto)]
 
 pub mod help;

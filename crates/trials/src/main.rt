@@ -1,16 +1,18 @@
-//! Trials of what no contract says. The words are trials, one behind the other, each with its own words behind it:
+//! The program of all trials, with a word for each: `cases`, `damage`, `scarcity`, `memory`,
+//! `load`.
 //!
-//! - `cases SUBJECT ..` runs cases (docs/cases.md): models with what they show;
-//! - `damage NAME ..` damages objects in each way that cuts them short or changes one byte, and looks at what becomes of that
-//!   (docs/failures.md);
-//! - `scarcity NAME ..` makes each call that asks for memory, from a model text to its report, and makes it once more where memory
-//!   was refused (docs/failures.md);
-//! - `memory` runs two jobs by two workers, where one request for memory may be refused; a number on standard input says which
-//!   (docs/service.md);
-//! - `load ROUNDS SEED [-v]` has users call services from four threads while workers run (docs/service.md).
+//! Each word has its own words behind it:
 //!
-//! Files are looked for in the current folder. Each trial prints what came of it. The status is 1 where one wasn't right, and where
-//! the words name none; those behind it aren't made where one can't be.
+//! - `cases SUBJECT ..` runs cases (docs/cases.md);
+//! - `damage NAME ..` cuts objects short and changes each byte (docs/gate.md);
+//! - `scarcity NAME ..` makes each call that asks for memory once more where it was refused
+//!   (docs/gate.md);
+//! - `memory` runs two jobs by two workers, of whose requests for memory one may be refused;
+//!   standard input says how many are made before (docs/service.md);
+//! - `load ROUNDS SEED [-v]` has users call services from four threads (docs/service.md).
+//!
+//! Files are looked for in the current folder. The status is 1 where a trial wasn't right, and
+//! where the words name none.
 #![tactic(auto)]
 
 mod words;
