@@ -2,7 +2,7 @@
 //!
 //! It promises which experiment the lines ask for, or the first that can't be taken, and that all
 //! shares together have all jobs, each once, in order. It reads nothing but these lines, and makes
-//! no run (docs/planner.md).
+//! no run (docs/many-machines.md).
 #![tactic(auto)]
 
 mod draft;

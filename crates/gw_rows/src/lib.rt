@@ -2,7 +2,7 @@
 //!
 //! It promises that a line which is taken for a row is written so, byte for byte, from what it was
 //! taken for, and that rows with one text are of one run. A row is a function of the run alone; it
-//! knows of no order of rows (docs/planner.md).
+//! knows of no order of rows (docs/many-machines.md).
 #![tactic(auto)]
 
 mod amounts;

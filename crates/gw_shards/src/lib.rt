@@ -2,7 +2,7 @@
 //!
 //! It promises the rows of lone runs with the seeds that a study gives them, whichever machine
 //! makes them, or a refusal as a row. What rows tell together is for `gw_summary` to say
-//! (docs/planner.md).
+//! (docs/many-machines.md).
 #![tactic(auto)]
 
 pub mod laws;

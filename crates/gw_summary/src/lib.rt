@@ -1,7 +1,7 @@
 //! Rows of one study, in any order, and what they tell.
 //!
 //! It promises the table of a study of just the runs whose rows came, none lost and none made up,
-//! or a refusal. It makes no run, and doesn't know who made the rows (docs/planner.md).
+//! or a refusal. It makes no run, and doesn't know who made the rows (docs/many-machines.md).
 #![tactic(auto)]
 
 mod fault;
