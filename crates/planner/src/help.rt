@@ -35,7 +35,7 @@ Behind the numbers of study and compare, in any order:
   --from W      figures from the W-th counted transaction on: the start is left out
   --seeds K     the K-th study of so many runs: others than those of the first
   --workers N   so many at work, 1 to 16; else as many as there are processors
-  --all         all figures, with those of blocks, facilities and chains
+  --all         all figures, with those of blocks, switches and chains
   --csv         records with commas between (RFC 4180)
   --svg FIGURE  a picture of one figure over the points: its means and how sure
 
