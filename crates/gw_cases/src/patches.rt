@@ -17,20 +17,20 @@ use std::alloc::{AllocError, Global};
 use std::mem;
 
 /// Puts a value at a place of a list.
-fn put_at<T: Drop>(
+fn set_at<T: Drop>(
     alloc: Global,
     items: &mut Items<T>,
     place: usize,
     value: T,
 ) -> Result<(), Stop> {
     let mut list = mem::replace(items, Items::from_vec(Vec::new(alloc))).into_vec();
-    let found = put_in(&mut list, place, value);
+    let found = set_in(&mut list, place, value);
     drop(mem::replace(items, Items::from_vec(list)));
     found
 }
 
 /// Puts a value at a place.
-fn put_in<T: Drop>(list: &mut Vec<T>, place: usize, value: T) -> Result<(), Stop> {
+fn set_in<T: Drop>(list: &mut Vec<T>, place: usize, value: T) -> Result<(), Stop> {
     match list.get_mut(place) {
         Some(slot) => {
             drop(mem::replace(slot, value));
@@ -105,17 +105,17 @@ const OF_BLOCK: &[(&[u8], OfBlock)] = &[
 ];
 
 /// Changes a block's weight.
-fn put_weight(alloc: Global, parts: &mut Parts, block: usize, words: &[&[u8]]) -> Result<(), Stop> {
+fn set_weight(alloc: Global, parts: &mut Parts, block: usize, words: &[&[u8]]) -> Result<(), Stop> {
     let weight = number_u32(only_of(words)?)?;
-    put_at(alloc, &mut parts.weights, block, weight)
+    set_at(alloc, &mut parts.weights, block, weight)
 }
 
 /// Changes a block's slope.
-fn put_slope(alloc: Global, parts: &mut Parts, block: usize, words: &[&[u8]]) -> Result<(), Stop> {
+fn set_slope(alloc: Global, parts: &mut Parts, block: usize, words: &[&[u8]]) -> Result<(), Stop> {
     let (parameter, rest) = first_of(words)?;
     let value = only_of(rest)?;
     let slope = Some((number_u8(parameter)?, number_u32(value)?));
-    put_at(alloc, &mut parts.slopes, block, slope)
+    set_at(alloc, &mut parts.slopes, block, slope)
 }
 
 /// Changes a block: `B weight W`, `B slope P N` or `B bytes HEX ..`.
@@ -124,11 +124,11 @@ fn patch_block(alloc: Global, parts: &mut Parts, words: &[&[u8]]) -> Result<(), 
     let block = block_place(block)?;
     let (changed, rest) = first_meaning(OF_BLOCK, rest)?;
     match changed {
-        OfBlock::Weight => put_weight(alloc, parts, block, rest),
-        OfBlock::Slope => put_slope(alloc, parts, block, rest),
+        OfBlock::Weight => set_weight(alloc, parts, block, rest),
+        OfBlock::Slope => set_slope(alloc, parts, block, rest),
         OfBlock::Bytes => {
             let value = spelled_block(alloc, rest)?;
-            put_at(alloc, &mut parts.blocks, block, value)
+            set_at(alloc, &mut parts.blocks, block, value)
         }
     }
 }
@@ -303,7 +303,7 @@ fn patch_chain(alloc: Global, parts: &mut Parts, words: &[&[u8]]) -> Result<(), 
     let value = only_of(behind_word(b"weight", rest)?)?;
     let chain = chain_place(parts.entities.as_slice(), name).ok_or(Stop::Unknown)?;
     let weight = number_u32(value)?;
-    put_at(alloc, &mut parts.chain_weights, chain, weight)
+    set_at(alloc, &mut parts.chain_weights, chain, weight)
 }
 
 /// Changes a procedure: `P bytes HEX ..`.
@@ -311,7 +311,7 @@ fn patch_procedure(alloc: Global, parts: &mut Parts, words: &[&[u8]]) -> Result<
     let (procedure, rest) = first_of(words)?;
     let value = spelled::<CodeFormat, Procedure>(alloc, behind_word(b"bytes", rest)?)?;
     match place(procedure) {
-        Ok(place) => put_at(alloc, &mut parts.procedures, place, value),
+        Ok(place) => set_at(alloc, &mut parts.procedures, place, value),
         Err(stop) => {
             drop(value);
             Err(stop)
@@ -320,26 +320,26 @@ fn patch_procedure(alloc: Global, parts: &mut Parts, words: &[&[u8]]) -> Result<
 }
 
 /// Changes the version.
-fn put_version(parts: &mut Parts, words: &[&[u8]]) -> Result<(), Stop> {
+fn set_version(parts: &mut Parts, words: &[&[u8]]) -> Result<(), Stop> {
     parts.version = number_u16(only_of(words)?)?;
     Ok(())
 }
 
 /// Changes the termination count.
-fn put_count(parts: &mut Parts, words: &[&[u8]]) -> Result<(), Stop> {
+fn set_count(parts: &mut Parts, words: &[&[u8]]) -> Result<(), Stop> {
     parts.count = number(only_of(words)?)?;
     Ok(())
 }
 
 /// Changes the seeds.
-fn put_seeds(alloc: Global, parts: &mut Parts, words: &[&[u8]]) -> Result<(), Stop> {
+fn set_seeds(alloc: Global, parts: &mut Parts, words: &[&[u8]]) -> Result<(), Stop> {
     let seeds = Items::from_vec(numbers_u32(alloc, words)?);
     drop(mem::replace(&mut parts.seeds, seeds));
     Ok(())
 }
 
 /// Puts so many slopes that aren't there in the place of all slopes.
-fn put_slopes(alloc: Global, parts: &mut Parts, words: &[&[u8]]) -> Result<(), Stop> {
+fn set_slopes(alloc: Global, parts: &mut Parts, words: &[&[u8]]) -> Result<(), Stop> {
     let number = place(only_of(words)?)?;
     let slopes = Items::from_vec(vec![in alloc; None; number]?);
     drop(mem::replace(&mut parts.slopes, slopes));
@@ -403,10 +403,10 @@ const CHANGES: &[(&[u8], Change)] = &[
 pub fn apply(alloc: Global, parts: &mut Parts, words: &[&[u8]]) -> Result<(), Stop> {
     let (change, rest) = first_meaning(CHANGES, words)?;
     match change {
-        Change::Version => put_version(parts, rest),
-        Change::Count => put_count(parts, rest),
-        Change::Seeds => put_seeds(alloc, parts, rest),
-        Change::Slopes => put_slopes(alloc, parts, rest),
+        Change::Version => set_version(parts, rest),
+        Change::Count => set_count(parts, rest),
+        Change::Seeds => set_seeds(alloc, parts, rest),
+        Change::Slopes => set_slopes(alloc, parts, rest),
         Change::Block => patch_block(alloc, parts, rest),
         Change::Chain => patch_chain(alloc, parts, rest),
         Change::Procedure => patch_procedure(alloc, parts, rest),

@@ -80,11 +80,6 @@ pub All-popped : {A : Type 0} (P : A → Type 0) (xs : List A) (v : A) (ys : Lis
 All-popped P [] v ys is all = rw is all
 All-popped P (x ∷ xs) v ys is all = rw is (λ k d below. all (suc k) d (omega arith))
 
--- the last, where P holds of all
-pub All-last : {A : Type 0} (P : A → Type 0) (xs ys : List A) (y : A) → xs ≡ ys ++ y ∷ [] → All P xs → P y
-All-last P xs ys y is all =
-    subst P (get_or-append_seam ys y [] y) (subst (All P) is all (length ys) y (omega (arith, length-append ys (y ∷ []))))
-
 module _ {X Z : Type 0} where
   -- THE PARTS AROUND A CHUNK
 

@@ -96,23 +96,25 @@ queue_labels front = contents_labels front ++ stay_labels front
 abbrev pub least_value : Table → ℕ → ℤ
 least_value t i = upper_limit t (i - 1) +ℤ pos 1
 
--- what the part of the first class is called, by its upper limit; of the last, by its least value; and of one between them
-abbrev pub first_class : ℤ → List ℕ
-first_class limit = codes "TO " ++ signed_decimal limit ++ codes " SHARE"
+-- what the part of the first class is called, by its upper limit
+abbrev pub first_class_text : ℤ → List ℕ
+first_class_text limit = codes "TO " ++ signed_decimal limit ++ codes " SHARE"
 
-abbrev pub last_class : ℤ → List ℕ
-last_class least = codes "FROM " ++ signed_decimal least ++ codes " SHARE"
+-- what that of the last is called, by its least value
+abbrev pub last_class_text : ℤ → List ℕ
+last_class_text least = codes "FROM " ++ signed_decimal least ++ codes " SHARE"
 
-abbrev pub class_between : ℤ → ℤ → List ℕ
-class_between least limit =
+-- what that of one between them is called, by both
+abbrev pub class_between_text : ℤ → ℤ → List ℕ
+class_between_text least limit =
     signed_decimal least ++ codes " TO " ++ signed_decimal limit ++ codes " SHARE"
 
 -- what the part of a class is called, by its number, where so many are behind it
 abbrev pub class_text : Table → ℕ → ℕ → List ℕ
 class_text t i left =
-    if i == 0 then first_class t.limit
-    else if left == 0 then last_class (least_value t i)
-    else class_between (least_value t i) (upper_limit t i)
+    if i == 0 then first_class_text t.limit
+    else if left == 0 then last_class_text (least_value t i)
+    else class_between_text (least_value t i) (upper_limit t i)
 
 -- of the classes of a table, of which the first has this number, and of which so many are left
 unfoldable pub class_labels : Table → List ℕ → ℕ → ℕ → List Label

@@ -1,6 +1,6 @@
 //! The figures of an entity, by its kind.
 
-ghost use Rattle.std.specs.Prelude.{◌≡◌, ◌≤◌, ◌<◌, ◌+◌, ◌-◌, ◌++◌, [], ◌∷◌, codes, OnOk, IfOk};
+ghost use Rattle.std.specs.Prelude.{◌≡◌, ◌≤◌, ◌<◌, ◌+◌, ◌-◌, ◌++◌, [], ◌∷◌, OnOk, IfOk};
 ghost use Rattle.gw_figures.specs.Labels as model;
 ghost use Rattle.gw_figures.specs.Labels.{AddsFigures, Label, labels, plain};
 
@@ -68,17 +68,17 @@ fn least_value(table: &Table, class: u64) -> i128
     upper_limit(table, class - 1) + 1
 }
 
-/// What the part of the first class of a table is called.
-fn put_first_class(out: &mut Vec<u8>, table: &Table) -> Result<(), Memory>
-    ensures { OnOk result (out.new.items ≡ out.old.items ++ model.first_class table.now.limit) }
+/// What the part of the first class of a table is called, whose upper limit this is.
+fn put_first_class(out: &mut Vec<u8>, limit: i64) -> Result<(), Memory>
+    ensures { OnOk result (out.new.items ≡ out.old.items ++ model.first_class_text limit) }
 {
-    put_number(out, "TO ", table.limit)?;
+    put_number(out, "TO ", limit)?;
     put(out, " SHARE")
 }
 
 /// What that of the last one is called, whose least value this is.
 fn put_last_class(out: &mut Vec<u8>, least: i128) -> Result<(), Memory>
-    ensures { OnOk result (out.new.items ≡ out.old.items ++ model.last_class least) }
+    ensures { OnOk result (out.new.items ≡ out.old.items ++ model.last_class_text least) }
 {
     put_number(out, "FROM ", least)?;
     put(out, " SHARE")
@@ -86,7 +86,8 @@ fn put_last_class(out: &mut Vec<u8>, least: i128) -> Result<(), Memory>
 
 /// What that of one between them is called, whose least value and upper limit these are.
 fn put_class_between(out: &mut Vec<u8>, least: i128, limit: i128) -> Result<(), Memory>
-    ensures { OnOk result (out.new.items ≡ out.old.items ++ model.class_between least limit) }
+    ensures { OnOk result
+        (out.new.items ≡ out.old.items ++ model.class_between_text least limit) }
 {
     put_number(out, "", least)?;
     put_number(out, " TO ", limit)?;
@@ -99,7 +100,7 @@ fn put_class(out: &mut Vec<u8>, table: &Table, class: u64, left: u64) -> Result<
         (out.new.items ≡ out.old.items ++ model.class_text table.now class left) }
 {
     if class == 0 {
-        put_first_class(out, table)
+        put_first_class(out, table.limit)
     } else if left == 0 {
         put_last_class(out, least_value(table, class))
     } else {

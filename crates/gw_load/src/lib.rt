@@ -18,4 +18,4 @@ mod settling;
 mod shift;
 mod works;
 
-pub use rounds::{Request, call_services};
+pub use rounds::{Rounds, call_services};

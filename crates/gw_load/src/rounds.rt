@@ -16,9 +16,9 @@ use std::time::Clock;
 
 /// Which rounds are made.
 #[derive(Clone, Copy)]
-pub struct Request {
+pub struct Rounds {
     /// How many there are.
-    pub rounds: u32,
+    pub number: u32,
     /// Where the draws of what is done in them begin.
     pub seed: u32,
     /// Whether what was told is counted on standard error, behind each round.
@@ -30,13 +30,13 @@ fn run_rounds<W: Threads + Wait + Sync + Eprint>(
     rt: &W,
     alloc: Global,
     samples: &[Sample],
-    request: Request,
+    rounds: Rounds,
 ) -> Result<Tally, Memory> {
     let mut tally = Tally::new();
-    for round in 0..request.rounds {
+    for round in 0..rounds.number {
         let shift = shift_of(round).ok_or(Memory)?;
-        run_round(rt, alloc, samples, shift, request.seed, round, &mut tally)?;
-        if request.is_watched {
+        run_round(rt, alloc, samples, shift, rounds.seed, round, &mut tally)?;
+        if rounds.is_watched {
             let _ = eprintln!(rt; "round {round}: {}", tally.replies);
         }
     }
@@ -62,13 +62,13 @@ fn quick(samples: &[Sample]) -> Result<&Sample, Memory> {
 fn tell_rounds<W: Threads + Wait + Sync + Clock + Files + Print + Eprint + AllocGlobal>(
     rt: &W,
     samples: &[Sample],
-    request: Request,
+    rounds: Rounds,
 ) -> io::Result<bool> {
-    let tally = run_rounds(rt, rt.alloc(), samples, request)?;
-    let acts = u64::from(request.rounds) * u64::from(THREADS * ACTS);
+    let tally = run_rounds(rt, rt.alloc(), samples, rounds)?;
+    let acts = u64::from(rounds.number) * u64::from(THREADS * ACTS);
     println!(rt;
         "{} rounds, {acts} acts in {THREADS} threads",
-        request.rounds
+        rounds.number
     )?;
     println!(rt; "{}", tally.differences)?;
     let outcome = run_beside_dear_start(rt, quick(samples)?)?;
@@ -81,10 +81,10 @@ fn tell_rounds<W: Threads + Wait + Sync + Clock + Files + Print + Eprint + Alloc
 /// was lost, and nobody was held up.
 pub fn call_services<W: Threads + Wait + Sync + Clock + Files + Print + Eprint + AllocGlobal>(
     rt: &W,
-    request: Request,
+    rounds: Rounds,
 ) -> io::Result<bool> {
     let samples = all_samples(rt)?;
-    let is_right = tell_rounds(rt, samples.as_slice(), request);
+    let is_right = tell_rounds(rt, samples.as_slice(), rounds);
     drop(samples);
     is_right
 }

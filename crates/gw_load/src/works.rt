@@ -4,7 +4,7 @@ ghost use Rattle.std.specs.Prelude.{◌≡◌};
 
 use crate::counts::count;
 use crate::shift::Shift;
-use gw_pool::{Crew, OpenGate, PoolFault, Service, Totals};
+use gw_pool::{Crew, OpenGate, Service, Totals};
 use std::alloc::Global;
 use std::sync::Wait;
 use std::sync::atomic::{AtomicU64, Ordering};

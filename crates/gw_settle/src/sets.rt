@@ -76,7 +76,7 @@ fn push_united(all: &mut Vec<u16>, numbers: &[u16], others: &[u16]) -> Result<()
 }
 
 /// Adds the numbers of two lists to others, ascending; what the two have in common at the front is taken at once.
-fn push_all(all: &mut Vec<u16>, numbers: &[u16], others: &[u16]) -> Result<(), Memory>
+fn push_union(all: &mut Vec<u16>, numbers: &[u16], others: &[u16]) -> Result<(), Memory>
     requires numbers { AllPairs (λ a b. a < b) numbers.now }
     requires others { AllPairs (λ a b. a < b) others.now }
     ensures { IfOk result (λ _. all.new.items ≡ all.old.items ++ united_of numbers.now others.now) }
@@ -94,6 +94,6 @@ pub(crate) fn united(alloc: Global, numbers: &[u16], others: &[u16]) -> Result<V
     ensures { IfOk result (λ all. all.items ≡ united_of numbers.now others.now) }
 {
     let mut all = Vec::with_capacity(alloc, numbers.len())?;
-    push_all(&mut all, numbers, others)?;
+    push_union(&mut all, numbers, others)?;
     Ok(all)
 }

@@ -28,7 +28,7 @@ use std::sync::Wait;
 use std::thread::Threads;
 use std::time::Clock;
 use std::{env, io};
-use words::{Trial, begins_trial, own_words, request_of, trial_named};
+use words::{Trial, begins_trial, own_words, rounds_of, trial_named};
 
 /// Words that ask for no trial.
 fn wrong_words() -> io::Error {
@@ -47,8 +47,8 @@ fn make_trial<W: Threads + Wait + Sync + Clock + Files + Input + Print + Eprint 
         Trial::Scarcity => report_texts(rt, words),
         Trial::Memory if words.is_empty() => run_two_jobs(rt),
         Trial::Memory => Err(wrong_words()),
-        Trial::Load => match request_of(words) {
-            Some(request) => call_services(rt, request),
+        Trial::Load => match rounds_of(words) {
+            Some(rounds) => call_services(rt, rounds),
             None => Err(wrong_words()),
         },
     }

@@ -1,6 +1,6 @@
 //! The words of the command line: trials, each with its own words behind it.
 
-use gw_load::Request;
+use gw_load::Rounds;
 
 /// A trial.
 #[derive(Clone, Copy)]
@@ -48,14 +48,14 @@ pub fn own_words(words: &[String]) -> &[String] {
 }
 
 /// Which rounds the words behind `load` ask for, if they are such words.
-pub fn request_of(words: &[String]) -> Option<Request> {
+pub fn rounds_of(words: &[String]) -> Option<Rounds> {
     let (rounds, seed, is_watched) = match words {
         [rounds, seed] => (rounds, seed, false),
         [rounds, seed, last] if last.as_str() == "-v" => (rounds, seed, true),
         _ => return None,
     };
-    Some(Request {
-        rounds: rounds.as_str().parse::<u32>().ok()?,
+    Some(Rounds {
+        number: rounds.as_str().parse::<u32>().ok()?,
         seed: seed.as_str().parse::<u32>().ok()?,
         is_watched,
     })

@@ -1,6 +1,6 @@
-use Rattle.std.proofs.Common.{◌≡◌, ◌∙◌, ◌++◌, [], ◌∷◌, ap}
+use Rattle.std.proofs.Common.{◌∙◌, ◌++◌, [], ◌∷◌, ap}
 use Rattle.gw_chains.specs.Chunks.{all_of, IsSpare}
-use Rattle.gw_chains.proofs.Chunking.{All-last}
+use Rattle.gw_chains.proofs.Few.{All-last}
 use Rattle.gw_chains.proofs.chunks.begin.Goals as goal
 
 pub returns-clause-items : goal.returns-clause-items

@@ -2,7 +2,7 @@ use Rattle.std.proofs.Common.{rules, ◌≡◌, ◌++◌, ◌-◌, ◌∙◌, �
 use Rattle.std.proofs.lemmas.List.{take_all, length-drop}
 use Rattle.gw_settle.specs.Joins.{union_of}
 use Rattle.gw_settle.proofs.Uniting.{common_first}
-use Rattle.gw_settle.proofs.sets.push_all.Goals as goal
+use Rattle.gw_settle.proofs.sets.push_union.Goals as goal
 
 whole : (k : ℕ) (ns : List ℕ) → take (length ns - k) (drop k ns) ≡ drop k ns
 whole k ns = take_all (length ns - k) (drop k ns) (omega (arith, length-drop k ns))
