@@ -2,7 +2,7 @@
 //!
 //! It promises that behind a head there is a piece for each line of the text, in order, and that a
 //! line without a statement is its own piece; which operands are times, and what marks a rule has.
-//! What a converted model does is no matter of a proof (docs/planner.md, "convert").
+//! What a converted model does is no matter of a proof (docs/planner.md).
 #![tactic(auto)]
 
 mod changes;
