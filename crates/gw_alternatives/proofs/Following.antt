@@ -1,9 +1,9 @@
 -- Alternatives and what is told of them, one after the other.
 use Rattle.std.proofs.Common.{◌≡◌, ℕ, List, [], ◌∷◌, ◌++◌, ◌+◌, length, arith, refl, ap, subst}
 use Rattle.gw_comparison.specs.declared.point.Point.{Point}
-use Rattle.gw_points.specs.declared.points.Points.{Points}
+use Rattle.gw_parameters.specs.declared.points.Points.{Points}
 use Rattle.gw_study.specs.declared.request.StudyRequest.{StudyRequest}
-use Rattle.gw_alternatives.specs.declared.alternative.Alternative.{Alternative}
+use Rattle.gw_alternatives.specs.declared.study_point.StudyPoint.{StudyPoint}
 use Rattle.gw_alternatives.specs.declared.form.Form.{Form}
 use Rattle.gw_alternatives.specs.Alternatives.{IsPointAt, ArePointsFrom}
 use Rattle.gw_alternatives.specs.Told.{TellsAlternative, TellsAlternatives}
@@ -18,14 +18,14 @@ unfolding TellsAlternatives
 none_told form request old = (refl, refl)
 
 -- one point more
-pub point_more : (text : List ℕ) (points : Points) (count k n : ℕ) (xs : List Alternative) (x : Alternative) → ArePointsFrom text points count k xs
+pub point_more : (text : List ℕ) (points : Points) (count k n : ℕ) (xs : List StudyPoint) (x : StudyPoint) → ArePointsFrom text points count k xs
     → k + length xs ≡ n → IsPointAt text points count n x → ArePointsFrom text points count k (xs ++ x ∷ [])
 unfolding ArePointsFrom
 point_more text points count k n [] x none is h = let there : n ≡ k = omega (arith, is) in (subst (λ i. IsPointAt text points count i x) there h, tt)
 point_more text points count k n (y ∷ xs) x so_far is h = (so_far.0, point_more text points count (k + 1) n xs x so_far.1 (omega (arith, is)) h)
 
 -- one alternative more is told
-pub told_more : (form : Form) (request : StudyRequest) (xs : List Alternative) (x : Alternative) (points : List Point) (point : Point) (old middle new : List ℕ)
+pub told_more : (form : Form) (request : StudyRequest) (xs : List StudyPoint) (x : StudyPoint) (points : List Point) (point : Point) (old middle new : List ℕ)
     → TellsAlternatives form request xs points old middle → TellsAlternative form request x point middle new
     → TellsAlternatives form request (xs ++ x ∷ []) (points ++ point ∷ []) old new
 unfolding TellsAlternatives

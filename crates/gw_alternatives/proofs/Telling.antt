@@ -11,13 +11,13 @@ use Rattle.gw_study.specs.Study.{AreResultsOf, IsResultsText}
 use Rattle.gw_study.specs.Table.{Adds}
 use Rattle.gw_study.specs.declared.request.StudyRequest.{StudyRequest}
 use Rattle.gw_study.specs.declared.telling.Results.{Results}
-use Rattle.gw_alternatives.specs.declared.alternative.Alternative.{Alternative}
+use Rattle.gw_alternatives.specs.declared.study_point.StudyPoint.{StudyPoint}
 use Rattle.gw_alternatives.specs.declared.alternatives.NoAlternative.{NoAlternative}
 use Rattle.gw_alternatives.specs.declared.form.Form.{Form}
 use Rattle.gw_alternatives.specs.Told.{AddsTableIn, head_line, IsAnswerAbout, IsPointBy, IsTableOf, IsToldOr, TellsAlternative}
 
-pub told_or : {E : Type 0} (Are : List Alternative → Type 0) (form : Form) (request : StudyRequest)
-    (found : Result (Vec Alternative Global) NoAlternative) (a : Result Answer E)
+pub told_or : {E : Type 0} (Are : List StudyPoint → Type 0) (form : Form) (request : StudyRequest)
+    (found : Result (Vec StudyPoint Global) NoAlternative) (a : Result Answer E)
     → IfOk found (λ all. Are all.items)
     → MatchResult found (λ all. IfOk a (λ a. IsAnswerAbout form request all.items a.text.items a.status)) (λ none. IfOk a (λ a. a.status ≡ refusal_status))
     → IfOk a (λ a. IsToldOr Are form request a.text.items a.status)
@@ -39,7 +39,7 @@ table_of (Ok u) name results request count old head new table is told h = (
 table_of (Err e) name results request count old head new table is told h = tt
 
 -- the runs of an alternative, its table and its point are what is told of it
-pub told_by : {E : Type 0} (r : Result Point E) (form : Form) (request : StudyRequest) (a : Alternative) (results : Results) (old new : List ℕ)
+pub told_by : {E : Type 0} (r : Result Point E) (form : Form) (request : StudyRequest) (a : StudyPoint) (results : Results) (old new : List ℕ)
     → AreResultsOf a.spec request results → AddsTableIn form request a results old new → IfOk r (IsPointBy request.all a.name.items results)
     → IfOk r (λ point. TellsAlternative form request a point old new)
 told_by (Ok point) form request a results old new runs table h = record { results = results; runs = runs; point_is = h; table = table }

@@ -18,7 +18,7 @@ use Rattle.gw_study.specs.Table.{is_ended_so, Adds}
 use Rattle.gw_study.specs.Study.{AreResultsOf, IsTextOfResults}
 use Rattle.gw_study.specs.declared.request.StudyRequest.{StudyRequest}
 use Rattle.gw_study.specs.declared.telling.Results.{Results}
-use Rattle.gw_alternatives.specs.declared.alternative.Alternative.{Alternative}
+use Rattle.gw_alternatives.specs.declared.study_point.StudyPoint.{StudyPoint}
 use Rattle.gw_alternatives.specs.declared.alternatives.NoAlternative.{NoAlternative}
 use Rattle.gw_alternatives.specs.declared.form.Form.{Form}
 use Rattle.gw_alternatives.specs.declared.form.Form.TheVariants.{Table, Csv, Picture}
@@ -74,36 +74,36 @@ IsTableOf name results request count text =
     × (text ≡ head_line name ++ told ++ codes "\n")
 
 -- that, where tables are asked for
-abbrev pub AddsTableIn : Form → StudyRequest → Alternative → Results → List ℕ → List ℕ → Type 0
+abbrev pub AddsTableIn : Form → StudyRequest → StudyPoint → Results → List ℕ → List ℕ → Type 0
 AddsTableIn Table request a results old new = Adds (IsTableOf a.name.items results request a.spec.count) old new
 AddsTableIn Csv request a results old new = new ≡ old
 AddsTableIn (Picture figure) request a results old new = new ≡ old
 
 -- where all went well, that is put behind a text
-abbrev pub PutsTableIn : {E : Type 0} → Result (Unit {0}) E → Form → StudyRequest → Alternative → Results → Vec ℕ Global → Vec ℕ Global → Type 0
+abbrev pub PutsTableIn : {E : Type 0} → Result (Unit {0}) E → Form → StudyRequest → StudyPoint → Results → Vec ℕ Global → Vec ℕ Global → Type 0
 PutsTableIn result form request a results old new = OnOk result (AddsTableIn form request a results old.items new.items)
 
 -- an alternative is run, as often and with the seeds that are asked for, and told
-pub record TellsAlternative (form : Form) (request : StudyRequest) (a : Alternative) (point : Point) (old new : List ℕ) : Type 0 where
+pub record TellsAlternative (form : Form) (request : StudyRequest) (a : StudyPoint) (point : Point) (old new : List ℕ) : Type 0 where
   pub results : Results
   pub runs : AreResultsOf a.spec request results
   pub point_is : IsPointBy request.all a.name.items results point
   pub table : AddsTableIn form request a results old new
 
 -- all alternatives are, one after the other
-unfoldable pub TellsAlternatives : Form → StudyRequest → List Alternative → List Point → List ℕ → List ℕ → Type 0
+unfoldable pub TellsAlternatives : Form → StudyRequest → List StudyPoint → List Point → List ℕ → List ℕ → Type 0
 TellsAlternatives form request [] points old new = (points ≡ []) × (new ≡ old)
 TellsAlternatives form request (a ∷ rest) points old new =
     (point : Point) × (others : List Point) × (middle : List ℕ) × (points ≡ point ∷ others)
     × TellsAlternative form request a point old middle × TellsAlternatives form request rest others middle new
 
 -- where all went well, an alternative is told behind a text, and its point comes back
-abbrev pub PutsAlternative : {E : Type 0} → Result Point E → Form → StudyRequest → Alternative → Vec ℕ Global → Vec ℕ Global → Type 0
+abbrev pub PutsAlternative : {E : Type 0} → Result Point E → Form → StudyRequest → StudyPoint → Vec ℕ Global → Vec ℕ Global → Type 0
 PutsAlternative result form request a old new =
     IfOk result (λ point. TellsAlternative form request a point old.items new.items)
 
 -- the same of alternatives
-abbrev pub PutsAlternatives : {E : Type 0} → Result (Vec Point Global) E → Form → StudyRequest → List Alternative → Vec ℕ Global → Vec ℕ Global → Type 0
+abbrev pub PutsAlternatives : {E : Type 0} → Result (Vec Point Global) E → Form → StudyRequest → List StudyPoint → Vec ℕ Global → Vec ℕ Global → Type 0
 PutsAlternatives result form request alternatives old new =
     IfOk result (λ points. TellsAlternatives form request alternatives points.items old.items new.items)
 
@@ -128,27 +128,27 @@ AddsRest (Picture figure) all points old new = Unit {0}
 -- THE WHOLE
 
 -- what is told of alternatives: each is run, and what its runs say is told, and then the differences to the first
-pub record AreTold (form : Form) (request : StudyRequest) (alternatives : List Alternative) (text : List ℕ) : Type 0 where
+pub record AreTold (form : Form) (request : StudyRequest) (alternatives : List StudyPoint) (text : List ℕ) : Type 0 where
   pub points : List Point
   pub middle : List ℕ
   pub each : TellsAlternatives form request alternatives points [] middle
   pub rest : AddsRest form request.all points middle text
 
 -- what answers about alternatives: they are told, or what is asked for is refused
-abbrev pub IsAnswerAbout : Form → StudyRequest → List Alternative → List ℕ → ℕ → Type 0
+abbrev pub IsAnswerAbout : Form → StudyRequest → List StudyPoint → List ℕ → ℕ → Type 0
 IsAnswerAbout form request alternatives text status =
     ((status ≡ end_status) × AreTold form request alternatives text) ⊎ (status ≡ refusal_status)
 
 -- what answers about alternatives, or why there are none
-abbrev pub AnswersAbout : {E : Type 0} → Result (Vec Alternative Global) NoAlternative → Form → StudyRequest → Result Answer E → Type 0
+abbrev pub AnswersAbout : {E : Type 0} → Result (Vec StudyPoint Global) NoAlternative → Form → StudyRequest → Result Answer E → Type 0
 AnswersAbout found form request result =
     MatchResult found (λ all. AnswersAs result (IsAnswerAbout form request all.items))
     (λ none. IfOk result (λ a. a.status ≡ refusal_status))
 
 -- the same where these are alternatives of a kind, or there are none
-abbrev pub IsToldOr : (List Alternative → Type 0) → Form → StudyRequest → List ℕ → ℕ → Type 0
+abbrev pub IsToldOr : (List StudyPoint → Type 0) → Form → StudyRequest → List ℕ → ℕ → Type 0
 IsToldOr Are form request text status =
-    ((alternatives : List Alternative) × Are alternatives × IsAnswerAbout form request alternatives text status)
+    ((alternatives : List StudyPoint) × Are alternatives × IsAnswerAbout form request alternatives text status)
     ⊎ (status ≡ refusal_status)
 
 -- what is told of a model with the numbers that words give

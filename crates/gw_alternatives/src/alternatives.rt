@@ -1,14 +1,14 @@
 //! The jobs of alternatives: each is there, or the first that is refused, before any run.
 
 ghost use Rattle.std.specs.Prelude.{◌≡◌, ◌<◌, ◌≤◌, ◌++◌, ◌∷◌, [], length, map, IfOk, OnOk};
-ghost use Rattle.gw_points.specs.Points.{count_of, name_of as point_name};
+ghost use Rattle.gw_parameters.specs.Points.{count_of, name_of as point_name};
 ghost use Rattle.gw_alternatives.specs.Alternatives.{IsAlternative, IsPointAt, ArePoints, ArePointsOf, AreModels};
 
-use crate::alternative::Alternative;
+use crate::study_point::StudyPoint;
 use gw_answers::{NoJob, Refusal, answer_refusal};
 use gw_figures::figures;
 use gw_object::Memory;
-use gw_points::{NoPoint, ParameterFault, Points, points_of, refusal_of as parameter_refusal};
+use gw_parameters::{NoPoint, ParameterFault, Points, points_of, refusal_of as parameter_refusal};
 use gw_scan::Spec;
 use gw_study::job_of_text;
 use std::alloc::Global;
@@ -58,11 +58,11 @@ pub(crate) fn alternative_of(
     name: Vec<u8>,
     text: &[u8],
     count: u64,
-) -> Result<Alternative, NoAlternative>
+) -> Result<StudyPoint, NoAlternative>
     ensures { IfOk result (IsAlternative name.items text.now count) }
 {
     match job_of_text(alloc, text, count) {
-        Ok(spec) => Ok(Alternative { name, spec }),
+        Ok(spec) => Ok(StudyPoint { name, spec }),
         Err(none) => {
             let none = refusal_of(alloc, none, &name);
             drop(name);
@@ -88,7 +88,7 @@ fn point_of(
     points: &Points,
     point: usize,
     count: u64,
-) -> Result<Alternative, NoAlternative>
+) -> Result<StudyPoint, NoAlternative>
     requires { point < count_of points.now }
     ensures { IfOk result (IsPointAt text.now points.now count point) }
 {
@@ -102,7 +102,7 @@ fn point_of(
 }
 
 /// Alternatives, with one more.
-fn add(alternatives: &mut Vec<Alternative>, alternative: Alternative) -> Result<(), NoAlternative>
+fn add(alternatives: &mut Vec<StudyPoint>, alternative: StudyPoint) -> Result<(), NoAlternative>
     ensures { OnOk result (alternatives.new.items ≡ alternatives.old.items ++ alternative ∷ []) }
 {
     match alternatives.push(alternative) {
@@ -117,7 +117,7 @@ fn points_in(
     text: &[u8],
     points: &Points,
     count: u64,
-) -> Result<Vec<Alternative>, NoAlternative>
+) -> Result<Vec<StudyPoint>, NoAlternative>
     requires { count_of points.now ≤ 64 }
     ensures { IfOk result (λ all. ArePointsOf text.now points.now count all.items) }
 {
@@ -135,7 +135,7 @@ pub fn points_by_words(
     text: &[u8],
     words: &[&[u8]],
     count: u64,
-) -> Result<Vec<Alternative>, NoAlternative>
+) -> Result<Vec<StudyPoint>, NoAlternative>
     ensures points { IfOk result
         (λ all. ArePoints text.now (map (λ w. w.now) words.now) count all.items) }
     ensures few { IfOk result (λ all. length all.items ≤ 64) }
@@ -163,7 +163,7 @@ pub(crate) fn models_of(
     first: &[u8],
     second: &[u8],
     count: u64,
-) -> Result<Vec<Alternative>, NoAlternative>
+) -> Result<Vec<StudyPoint>, NoAlternative>
     ensures { IfOk result (λ all. AreModels first.now second.now count all.items) }
 {
     let mut alternatives = Vec::new(alloc);
@@ -190,7 +190,7 @@ fn has_figure(alloc: Global, spec: &Spec, name: &[u8]) -> Result<bool, Memory> {
 /// The refusal of a figure that the first alternative hasn't, if it hasn't.
 pub(crate) fn refusal_of_figure(
     alloc: Global,
-    alternatives: &[Alternative],
+    alternatives: &[StudyPoint],
     name: &[u8],
 ) -> Result<Option<Vec<u8>>, Memory> {
     match alternatives {

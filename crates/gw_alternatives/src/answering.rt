@@ -6,9 +6,9 @@ ghost use Rattle.gw_answers.specs.Status.{refusal_status};
 ghost use Rattle.gw_alternatives.specs.Told.{AnswersAbout, IsAnswerAbout, IsComparison, IsStudyOfPoints};
 ghost use Rattle.gw_study.specs.Requests.{MayBeStudied};
 
-use crate::alternative::Alternative;
 use crate::alternatives::{NoAlternative, models_of, points_by_words, refusal_of_figure};
 use crate::form::Form;
+use crate::study_point::StudyPoint;
 use crate::told::told;
 use gw_answers::Answer;
 use gw_answers::status::{ENDED, REFUSED};
@@ -16,13 +16,12 @@ use gw_object::Memory;
 use gw_study::StudyRequest;
 use std::alloc::Global;
 use std::io::Eprint;
-use std::sync::Wait;
 use std::thread::Threads;
 
 /// Why alternatives can't be told in a form, if they can't: it is a picture of a figure that there isn't.
 fn refusal_of_form(
     alloc: Global,
-    alternatives: &[Alternative],
+    alternatives: &[StudyPoint],
     form: Form<'_>,
 ) -> Result<Option<Vec<u8>>, Memory> {
     match form {
@@ -42,10 +41,10 @@ fn refusal(text: Vec<u8>) -> Answer
 }
 
 /// What is told of alternatives, if they can be told in this form.
-fn answer_in<W: Threads + Wait + Sync + Eprint>(
+fn answer_in<W: Threads + Sync + Eprint>(
     rt: &W,
     alloc: Global,
-    alternatives: &[Alternative],
+    alternatives: &[StudyPoint],
     form: Form<'_>,
     request: &StudyRequest,
 ) -> Result<Answer, Memory>
@@ -62,10 +61,10 @@ fn answer_in<W: Threads + Wait + Sync + Eprint>(
 }
 
 /// What is told of alternatives, or why there are none.
-fn answer<W: Threads + Wait + Sync + Eprint>(
+fn answer<W: Threads + Sync + Eprint>(
     rt: &W,
     alloc: Global,
-    alternatives: Result<Vec<Alternative>, NoAlternative>,
+    alternatives: Result<Vec<StudyPoint>, NoAlternative>,
     form: Form<'_>,
     request: &StudyRequest,
 ) -> Result<Answer, Memory>
@@ -82,7 +81,7 @@ fn answer<W: Threads + Wait + Sync + Eprint>(
 /// What many runs of a model say with other numbers in it: words as `NURSES=2,3` ask for a point each, which is the model with
 /// these numbers. Run r of each point has the same seeds. As tables each point has its own, and then come the differences of each
 /// to the first, by pairs of runs. A word, or the text of a point, that is refused is told before any run.
-pub fn study_points<W: Threads + Wait + Sync + Eprint>(
+pub fn study_points<W: Threads + Sync + Eprint>(
     rt: &W,
     alloc: Global,
     text: &[u8],
@@ -104,7 +103,7 @@ pub fn study_points<W: Threads + Wait + Sync + Eprint>(
 }
 
 /// What many runs of two models say, A and B: as [`study_points`], by the figures that both have.
-pub fn compare<W: Threads + Wait + Sync + Eprint>(
+pub fn compare<W: Threads + Sync + Eprint>(
     rt: &W,
     alloc: Global,
     first: &[u8],

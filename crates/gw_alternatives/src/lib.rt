@@ -4,14 +4,14 @@
 //! study, and that differences are by pairs of these. It makes no run of its own (docs/planner.md).
 #![tactic(auto)]
 
-mod alternative;
 mod alternatives;
 mod answering;
 mod form;
+mod study_point;
 mod told;
 
-pub use alternative::Alternative;
 pub use alternatives::{NoAlternative, points_by_words};
 pub use answering::{compare, study_points};
 pub use form::Form;
+pub use study_point::StudyPoint;
 pub use told::{point_of, put_block, put_table};

@@ -8,8 +8,8 @@ ghost use Rattle.gw_study.specs.Table.{Adds};
 ghost use Rattle.gw_alternatives.specs.Told as model;
 ghost use Rattle.gw_alternatives.specs.Told.{AddsAllDifferences, AddsBlock, AddsRest, AreTold, IsPointBy, PutsAlternative, PutsAlternatives, series_of};
 
-use crate::alternative::Alternative;
 use crate::form::Form;
+use crate::study_point::StudyPoint;
 use gw_comparison::{Column, Point, put_differences, put_picture, put_sheet};
 use gw_figures::{Figure, Run};
 use gw_object::Memory;
@@ -17,7 +17,6 @@ use gw_scan::End;
 use gw_study::{Results, StudyRequest, results, results_text};
 use std::alloc::Global;
 use std::io::Eprint;
-use std::sync::Wait;
 use std::thread::Threads;
 
 /// The value of a figure in a run that came to its count, if it has one there.
@@ -134,7 +133,7 @@ pub fn put_table(
 fn put_table_in(
     alloc: Global,
     out: &mut Vec<u8>,
-    alternative: &Alternative,
+    alternative: &StudyPoint,
     results: &Results,
     form: Form<'_>,
     request: &StudyRequest,
@@ -157,11 +156,11 @@ fn put_table_in(
 }
 
 /// Runs an alternative; its table is put, where tables are asked for. What its runs say comes back.
-fn point_told<W: Threads + Wait + Sync + Eprint>(
+fn point_told<W: Threads + Sync + Eprint>(
     rt: &W,
     alloc: Global,
     out: &mut Vec<u8>,
-    alternative: &Alternative,
+    alternative: &StudyPoint,
     form: Form<'_>,
     request: &StudyRequest,
 ) -> Result<Point, Memory>
@@ -174,11 +173,11 @@ fn point_told<W: Threads + Wait + Sync + Eprint>(
 }
 
 /// Runs all alternatives, one after the other.
-fn points_told<W: Threads + Wait + Sync + Eprint>(
+fn points_told<W: Threads + Sync + Eprint>(
     rt: &W,
     alloc: Global,
     out: &mut Vec<u8>,
-    alternatives: &[Alternative],
+    alternatives: &[StudyPoint],
     form: Form<'_>,
     request: &StudyRequest,
 ) -> Result<Vec<Point>, Memory>
@@ -257,10 +256,10 @@ fn put_points(
 }
 
 /// What is told of alternatives.
-pub(crate) fn told<W: Threads + Wait + Sync + Eprint>(
+pub(crate) fn told<W: Threads + Sync + Eprint>(
     rt: &W,
     alloc: Global,
-    alternatives: &[Alternative],
+    alternatives: &[StudyPoint],
     form: Form<'_>,
     request: &StudyRequest,
 ) -> Result<Vec<u8>, Memory>

@@ -9,8 +9,8 @@ use Rattle.std.specs.Str.{bytes_eq}
 use Rattle.std.specs.Str.Lines.{lines}
 use Rattle.gw_num.specs.Numerals.{number_below}
 use Rattle.gw_text_tokens.specs.Lines.{is_blank}
-use Rattle.gw_points.specs.Operands.{after_byte}
-use Rattle.gw_points.specs.Parameters.{numbers_in}
+use Rattle.gw_parameters.specs.Operands.{after_byte}
+use Rattle.gw_parameters.specs.Parameters.{numbers_in}
 use Rattle.gw_experiment.specs.Refusals.{refusal_text}
 use Rattle.gw_experiment.specs.declared.fault.ExperimentFault.{ExperimentFault}
 use Rattle.gw_experiment.specs.declared.fault.ExperimentFault.TheVariants as fault

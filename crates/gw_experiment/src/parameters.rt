@@ -2,12 +2,12 @@
 
 ghost use Rattle.std.specs.Prelude.{◌≡◌, ◌++◌, Some, IfOk, OnOk, codes};
 ghost use Rattle.std.specs.List.{flat_map, join_by};
-ghost use Rattle.gw_points.specs.Parameters.{numbers_in};
+ghost use Rattle.gw_parameters.specs.Parameters.{numbers_in};
 ghost use Rattle.gw_experiment.specs.Answers.{lent_texts};
 ghost use Rattle.gw_experiment.specs.Experiments as model;
 
 use gw_object::Memory;
-use gw_points::{NoPoint, parameter_in};
+use gw_parameters::{NoPoint, parameter_in};
 use std::alloc::Global;
 
 /// Numbers, each behind a comma.

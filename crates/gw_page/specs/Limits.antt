@@ -9,7 +9,7 @@ use Rattle.gw_answers.specs.ModelJobs.{IsJobOf}
 use Rattle.gw_figures.specs.Labels.{labels_of}
 use Rattle.gw_study.specs.Runs.{run_job}
 use Rattle.gw_alternatives.specs.Alternatives.{ArePoints}
-use Rattle.gw_alternatives.specs.declared.alternative.Alternative.{Alternative}
+use Rattle.gw_alternatives.specs.declared.study_point.StudyPoint.{StudyPoint}
 use Rattle.gw_command_line.specs.Words.{Choices, Act, Ask, Charts, Code, Help, Version, Studies, Compares, Rows, Sums, Object, Shares, Demand, RunsDemand}
 use Rattle.gw_command_line.specs.declared.words.Question.{Question}
 use Rattle.gw_command_line.specs.declared.words.Question.TheVariants.{Explain, List as Lists, Points, Convert, Trace, Report}
@@ -46,23 +46,23 @@ IsShare number steps numbers j true = TakesAtMost end_of_time steps (run_job j n
 IsShare number steps numbers j false = TakesMore end_of_time steps (run_job j number) ⊎ (numbers < length (labels_of j.parts))
 
 -- how many runs there are of so many points: at least one
-abbrev pub all_runs : ℕ → List Alternative → ℕ
+abbrev pub all_runs : ℕ → List StudyPoint → ℕ
 all_runs runs points = max (runs * length points) 1
 
 -- whether each of these points' runs of this number has no more than so many steps and figures
-abbrev pub AreShares : ℕ → ℕ → ℕ → List Alternative → Bool → Type 0
+abbrev pub AreShares : ℕ → ℕ → ℕ → List StudyPoint → Bool → Type 0
 AreShares number steps numbers points true = All (λ a. IsShare number steps numbers a.spec true) points
 AreShares number steps numbers points false = Any (λ a. IsShare number steps numbers a.spec false) points
 
 -- whether each has no more than its share of the limits, where there are so many runs of each point
-abbrev pub AreWithin : ℕ → ℕ → List Alternative → Bool → Type 0
+abbrev pub AreWithin : ℕ → ℕ → List StudyPoint → Bool → Type 0
 AreWithin number runs points within =
     AreShares number (most_steps / all_runs runs points) (most_numbers / all_runs runs points) points within
 
 -- the same of the points that words ask for of a text, with a count
 abbrev pub IsOfPoints : List ℕ → List (List ℕ) → ℕ → ℕ → ℕ → Bool → Type 0
 IsOfPoints text words count number runs within =
-    (points : List Alternative) × ArePoints text words count points × AreWithin number runs points within
+    (points : List StudyPoint) × ArePoints text words count points × AreWithin number runs points within
 
 -- the same where options name the words
 abbrev pub IsOfOptions : List ℕ → Choices → ℕ → ℕ → ℕ → Bool → Type 0

@@ -19,11 +19,10 @@ use gw_object::Memory;
 use gw_planner::{answer, answer_study, picture, rows_of};
 use std::alloc::Global;
 use std::io::Eprint;
-use std::sync::Wait;
 use std::thread::Threads;
 
 /// What an inquiry about a text comes to.
-fn answer_of<T: Threads + Wait + Sync + Eprint>(
+fn answer_of<T: Threads + Sync + Eprint>(
     rt: &T,
     alloc: Global,
     inquiry: &Inquiry<'_>,
@@ -142,7 +141,7 @@ fn reply_by(
 }
 
 /// The reply to an inquiry about a text. `Err` where memory runs out.
-pub(crate) fn reply_to_inquiry<T: Threads + Wait + Sync + Eprint>(
+pub(crate) fn reply_to_inquiry<T: Threads + Sync + Eprint>(
     rt: &T,
     alloc: Global,
     inquiry: &Inquiry<'_>,

@@ -12,7 +12,7 @@ ghost use Rattle.gw_study.specs.Runs.{run_job};
 
 use crate::counting::{END, is_short};
 use crate::inquiry::Inquiry;
-use gw_alternatives::{Alternative, NoAlternative, points_by_words};
+use gw_alternatives::{NoAlternative, StudyPoint, points_by_words};
 use gw_answers::status::ENDED;
 use gw_answers::{NoJob, Request, Time, answer_to, spec_of, spec_of_text};
 use gw_command_line::{MOST_RUNS, Options, Question, Runs, Study};
@@ -141,7 +141,7 @@ fn is_share(
 /// Whether each of these points' runs of this number has no more than so many steps and figures.
 fn are_shares(
     alloc: Global,
-    points: &[Alternative],
+    points: &[StudyPoint],
     number: u32,
     steps: u64,
     numbers: u64,
@@ -158,7 +158,7 @@ fn are_shares(
 }
 
 /// Whether each point's run of this number has no more than its share of the limits, where there are so many runs of each point.
-fn are_within(alloc: Global, points: &[Alternative], number: u32, runs: u64) -> Result<bool, Memory>
+fn are_within(alloc: Global, points: &[StudyPoint], number: u32, runs: u64) -> Result<bool, Memory>
     requires { (number < 512) × (runs ≤ 512) × (length points.now ≤ 64) }
     ensures { IfOk result (AreWithin number runs points.now) }
 {

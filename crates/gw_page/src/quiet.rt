@@ -4,11 +4,10 @@ use std::fmt::Display;
 use std::io;
 use std::io::Eprint;
 use std::marker::PhantomData;
-use std::sync::Wait;
 use std::thread::Threads;
 
-/// The leave to start threads and to wait that another runtime has, but silent on standard error: what is written there may reach
-/// the peer, whose socket may be all that there is.
+/// The leave to start threads that another runtime has, but silent on standard error: what is written there may reach the peer,
+/// whose socket may be all that there is.
 #[derive(Drop)]
 pub(crate) struct Quiet<T> {
     of: PhantomData<T>,
@@ -25,8 +24,6 @@ impl<T> Quiet<T> {
 unsafe impl<T> Sync for Quiet<T> {}
 
 impl<T: Threads> Threads for Quiet<T> {}
-
-impl<T: Wait> Wait for Quiet<T> {}
 
 impl<T> Eprint for Quiet<T> {
     fn eprint<D: Display + Drop>(&self, value: D) -> io::Result<()> {

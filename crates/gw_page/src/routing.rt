@@ -18,7 +18,6 @@ use gw_object::Memory;
 use http::Request;
 use std::alloc::Global;
 use std::io::Eprint;
-use std::sync::Wait;
 use std::thread::Threads;
 
 /// The command that a path is for.
@@ -40,7 +39,7 @@ fn name_in(path: &str) -> Option<&'static str>
 }
 
 /// The reply to the words of a command about a text.
-fn reply_to_words<T: Threads + Wait + Sync + Eprint>(
+fn reply_to_words<T: Threads + Sync + Eprint>(
     rt: &T,
     alloc: Global,
     words: &[String],
@@ -58,7 +57,7 @@ fn reply_to_words<T: Threads + Wait + Sync + Eprint>(
 }
 
 /// The reply to a command with a query, about a text.
-fn reply_to_command<T: Threads + Wait + Sync + Eprint>(
+fn reply_to_command<T: Threads + Sync + Eprint>(
     rt: &T,
     alloc: Global,
     name: &str,
@@ -82,7 +81,7 @@ fn reply_of_page(alloc: Global, method: &str) -> Result<Reply, Memory>
 }
 
 /// The reply to a request.
-fn reply_if_memory<T: Threads + Wait + Sync + Eprint>(
+fn reply_if_memory<T: Threads + Sync + Eprint>(
     rt: &T,
     alloc: Global,
     request: &Request<Bytes>,
@@ -105,7 +104,7 @@ fn reply_if_memory<T: Threads + Wait + Sync + Eprint>(
 }
 
 /// The reply to a request: also where memory runs out, if there is enough to say so.
-pub(crate) fn reply_to<T: Threads + Wait + Sync + Eprint>(
+pub(crate) fn reply_to<T: Threads + Sync + Eprint>(
     rt: &T,
     alloc: Global,
     request: &Request<Bytes>,

@@ -13,7 +13,6 @@ use std::alloc::{AllocError, Global};
 use std::hash::RandomState;
 use std::io;
 use std::io::{Read, Write};
-use std::sync::Wait;
 use std::thread::Threads;
 
 /// The page: what it answers depends on the request alone.
@@ -24,7 +23,7 @@ struct Page<T> {
     alloc: Global,
 }
 
-impl<T: Threads + Wait> Service for Page<T> {
+impl<T: Threads> Service for Page<T> {
     ghost use Rattle.gw_page.specs.Pages.{Answers};
 
     ghost answers = { λ old request response new. (new ≡ old) × Answers request response };
@@ -43,7 +42,7 @@ impl<T: Threads + Wait> Service for Page<T> {
 
 /// Answers the requests of one connection until it is done: its input ends, either side asks to close it, or what stands there is no
 /// request. `Err` where a read or a write fails.
-pub fn serve_page<T: Threads + Wait, R: Read, W: Write>(
+pub fn serve_page<T: Threads, R: Read, W: Write>(
     rt: &T,
     alloc: Global,
     keys: RandomState,

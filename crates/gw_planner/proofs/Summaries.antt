@@ -12,10 +12,10 @@ use Rattle.gw_step.specs.Job.{Job}
 use Rattle.gw_figures.specs.Labels.{Label, labels_of}
 use Rattle.gw_figures.specs.declared.run.Run.{Run}
 use Rattle.gw_figures.proofs.OfLabels.{values_are_of_labels}
-use Rattle.gw_points.specs.Points.{count_of}
-use Rattle.gw_points.specs.declared.fault.NoPoint.{NoPoint}
-use Rattle.gw_points.specs.declared.points.Points.{Points}
-use Rattle.gw_points.specs.declared.points.Points.TheVariants.{One}
+use Rattle.gw_parameters.specs.Points.{count_of}
+use Rattle.gw_parameters.specs.declared.fault.NoPoint.{NoPoint}
+use Rattle.gw_parameters.specs.declared.points.Points.{Points}
+use Rattle.gw_parameters.specs.declared.points.Points.TheVariants.{One}
 use Rattle.gw_rows.specs.Reading.{HasFigures, IsLine, IsPlain, IsWithoutFeed, MayBeInRange, MayChange, Outcome, outcome_of}
 use Rattle.gw_rows.specs.Rows.{rows_from}
 use Rattle.gw_rows.proofs.Changing.{changes_are_told}
@@ -27,7 +27,7 @@ use Rattle.gw_study.specs.Runs.{AreRunsFrom, IsRunOf, run_job, window}
 use Rattle.gw_study.specs.Streams.{overdraws_of}
 use Rattle.gw_study.specs.Study.{IsCountedJob, IsStudy}
 use Rattle.gw_alternatives.specs.Alternatives.{ArePointsFrom}
-use Rattle.gw_alternatives.specs.declared.alternative.Alternative.{Alternative}
+use Rattle.gw_alternatives.specs.declared.study_point.StudyPoint.{StudyPoint}
 use Rattle.gw_shards.specs.Rows.{AddsRowsOfPoints, AreRequestRows, AreRows, AreRowsOf, Common, common_of, header_of, header_unless, source}
 use Rattle.gw_shards.specs.declared.request.RowsRequest.{RowsRequest}
 use Rattle.gw_summary.specs.Keeping.{AreLines}
@@ -112,12 +112,12 @@ has_figures j from run h = record {
 -- THE STUDY
 
 -- the runs of a point's rows
-abbrev study_runs : Common → Alternative → List Run → StudyRuns
+abbrev study_runs : Common → StudyPoint → List Run → StudyRuns
 study_runs common point runs = record { labels = labels_of point.spec.parts; source = source common point; first = 0; runs = runs }
 
 -- rows of the model as it is: the line before them, and the rows of its runs
 record IsAlone (text : List ℕ) (request : RowsRequest) (rows : List ℕ) : Type 0 where
-  point : Alternative
+  point : StudyPoint
   called : point.name.items ≡ []
   job : IsCountedJob text request.count point.spec
   behind : List ℕ
@@ -131,7 +131,7 @@ one_is : (points : Points) → as_asked points ≡ as_asked One → points ≡ O
 one_is points is = cc
 
 -- the line before rows isn't empty
-unless_none : (point : Alternative) → LineOf (header_of point) → header_unless [] point ≡ header_of point
+unless_none : (point : StudyPoint) → LineOf (header_of point) → header_unless [] point ≡ header_of point
 unless_none point line = by_test (bytes_eq (header_of point) []) refl
   where
     by_test : (b : Bool) → bytes_eq (header_of point) [] ≡ b → cond b [] (header_of point) ≡ header_of point
@@ -140,7 +140,7 @@ unless_none point line = by_test (bytes_eq (header_of point) []) refl
         absurd (omega (arith, ap length none, ap length line.is, length_push line.line 10))
     by_test false same = refl
 
-only_one : (text : List ℕ) (request : RowsRequest) (rows : List ℕ) (points : List Alternative)
+only_one : (text : List ℕ) (request : RowsRequest) (rows : List ℕ) (points : List StudyPoint)
     → ArePointsFrom text One request.count 0 points → length points ≡ 1 → AreRequestRows (common_of text request) request points rows
     → IsAlone text request rows
 unfolding ArePointsFrom AddsRowsOfPoints

@@ -15,7 +15,6 @@ use gw_object::Memory;
 use gw_study::{StudyRequest, study};
 use std::alloc::Global;
 use std::io::Eprint;
-use std::sync::Wait;
 use std::thread::Threads;
 
 /// The bytes of the length before the first of two models.
@@ -98,7 +97,7 @@ fn tell_notes<T: Eprint>(rt: &T, alloc: Global, text: &[u8]) {
 }
 
 /// What many runs of a model say, with the numbers and in the form that options give.
-fn answer_with<T: Threads + Wait + Sync + Eprint>(
+fn answer_with<T: Threads + Sync + Eprint>(
     rt: &T,
     alloc: Global,
     asked: &Study<'_>,
@@ -114,7 +113,7 @@ fn answer_with<T: Threads + Wait + Sync + Eprint>(
 }
 
 /// What many runs of a model say.
-fn answer_alone<T: Threads + Wait + Sync + Eprint>(
+fn answer_alone<T: Threads + Sync + Eprint>(
     rt: &T,
     alloc: Global,
     asked: &Study<'_>,
@@ -132,7 +131,7 @@ fn answer_alone<T: Threads + Wait + Sync + Eprint>(
 }
 
 /// What many runs of two models say.
-fn answer_pair<T: Threads + Wait + Sync + Eprint>(
+fn answer_pair<T: Threads + Sync + Eprint>(
     rt: &T,
     alloc: Global,
     asked: &Study<'_>,
@@ -150,7 +149,7 @@ fn answer_pair<T: Threads + Wait + Sync + Eprint>(
 }
 
 /// What many runs of a model say, or of the two in an input. What is noted of the models is told on standard error.
-pub fn answer_study<T: Threads + Wait + Sync + Eprint>(
+pub fn answer_study<T: Threads + Sync + Eprint>(
     rt: &T,
     alloc: Global,
     asked: &Study<'_>,

@@ -8,15 +8,15 @@ use Rattle.gw_rows.specs.Rows.{Source, rows_from}
 use Rattle.gw_study.specs.Study.{AreResultsBetween}
 use Rattle.gw_study.specs.Table.{Adds}
 use Rattle.gw_study.specs.declared.telling.Results.{Results}
-use Rattle.gw_alternatives.specs.declared.alternative.Alternative.{Alternative}
+use Rattle.gw_alternatives.specs.declared.study_point.StudyPoint.{StudyPoint}
 use Rattle.gw_shards.specs.Rows.{AreRowsOf, Common, MayBeRead, source}
 
 -- what can be read is said of the runs of a job that can be run
-pub may_be_read : (common : Common) (point : Alternative) → JobFits point.spec → common.from < 2 ^ 64 → MayBeRead common point
+pub may_be_read : (common : Common) (point : StudyPoint) → JobFits point.spec → common.from < 2 ^ 64 → MayBeRead common point
 may_be_read common point fits from = record { least = fits.count_least; most = fits.count_most; from = from; spelled = fits.spelled }
 
 -- rows of results are those of the point's runs
-pub rows_added : {E : Type 0} (r : Result (Unit {0}) E) (common : Common) (point : Alternative) (first end : ℕ) (results : Results) (there : Source)
+pub rows_added : {E : Type 0} (r : Result (Unit {0}) E) (common : Common) (point : StudyPoint) (first end : ℕ) (results : Results) (there : Source)
     (old new : List ℕ) → AreResultsBetween point.spec common.from first end results → there ≡ source common point → MayBeRead common point
     → OnOk r (new ≡ old ++ rows_from (labels results.figures.items) there first results.runs.items)
     → OnOk r (All (MayBeInRange (labels results.figures.items)) results.runs.items) → OnOk r (Adds (AreRowsOf common point first end) old new)

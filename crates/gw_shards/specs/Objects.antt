@@ -7,7 +7,7 @@ use Rattle.gw_answers.specs.Status.{end_status, refusal_status}
 use Rattle.gw_answers.specs.declared.answer.Answer.{Answer}
 use Rattle.gw_study.specs.Seeds.{seeds_of_run}
 use Rattle.gw_alternatives.specs.Alternatives.{ArePoints}
-use Rattle.gw_alternatives.specs.declared.alternative.Alternative.{Alternative}
+use Rattle.gw_alternatives.specs.declared.study_point.StudyPoint.{StudyPoint}
 
 -- the same parts with the seeds of a run and this count
 abbrev pub with_seeds : Parts → ℕ → ℕ → Parts
@@ -22,12 +22,12 @@ abbrev pub Reseeds : {E : Type 0} → Parts → ℕ → ℕ → Result Answer E 
 Reseeds parts run count result = AnswersAs result (IsSpelled (with_seeds parts run count))
 
 -- the object of a run of the first of these points
-abbrev pub IsFirstObject : List Alternative → ℕ → List ℕ → ℕ → Type 0
+abbrev pub IsFirstObject : List StudyPoint → ℕ → List ℕ → ℕ → Type 0
 IsFirstObject [] run out status = ⊥
 IsFirstObject (point ∷ points) run out status = IsSpelled (with_seeds point.spec.parts run point.spec.count) out status
 
 -- what is answered: that of the points that words ask for, or a refusal
 abbrev pub IsObjectAnswer : List ℕ → List (List ℕ) → ℕ → ℕ → List ℕ → ℕ → Type 0
 IsObjectAnswer text words run count out status =
-    ((points : List Alternative) × ArePoints text words count points × IsFirstObject points run out status)
+    ((points : List StudyPoint) × ArePoints text words count points × IsFirstObject points run out status)
     ⊎ (status ≡ refusal_status)

@@ -7,32 +7,32 @@ use Rattle.gw_experiment.specs.Experiments.{Experiment, experiment_in}
 use Rattle.gw_experiment.specs.Shares.{share_of, run_at}
 use Rattle.gw_experiment.specs.declared.shares.Share.{Share}
 use Rattle.gw_alternatives.specs.Alternatives.{ArePoints}
-use Rattle.gw_alternatives.specs.declared.alternative.Alternative.{Alternative}
+use Rattle.gw_alternatives.specs.declared.study_point.StudyPoint.{StudyPoint}
 use Rattle.gw_rows.specs.Refusals.{refusal_rows}
 use Rattle.gw_shards.specs.Rows.{Common, digest, header_of, view, AddsRowsOf}
 use Rattle.gw_shards.specs.declared.rows.Common as declared_rows
 use Rattle.gw_shards.specs.declared.share.Part.{Part}
 
 -- how many jobs there are: a run of a point each
-abbrev pub jobs_of : List Alternative → Experiment → ℕ
+abbrev pub jobs_of : List StudyPoint → Experiment → ℕ
 jobs_of points experiment = length points * experiment.runs
 
 -- what rows of an experiment have in common, by the digest of its model
-abbrev pub common_by : List ℕ → List Alternative → Experiment → Common
+abbrev pub common_by : List ℕ → List StudyPoint → Experiment → Common
 common_by model points experiment = record { model = model; rows = jobs_of points experiment; from = experiment.from }
 
 -- the rows of a point's runs from one number to another, but not that one, are added, with the line before them where it isn't the
 -- last such line; nothing where there are no runs
-abbrev pub AddsPart : Common → ℕ → ℕ → List ℕ → Alternative → List ℕ → List ℕ → Type 0
+abbrev pub AddsPart : Common → ℕ → ℕ → List ℕ → StudyPoint → List ℕ → List ℕ → Type 0
 AddsPart common first end last point old new =
     MatchBool (nat_lt first end) (AddsRowsOf common first end last point old new) (new ≡ old)
 
 -- the last line before rows behind these
-abbrev pub last_header : ℕ → ℕ → List ℕ → Alternative → List ℕ
+abbrev pub last_header : ℕ → ℕ → List ℕ → StudyPoint → List ℕ
 last_header first end last point = if nat_lt first end then header_of point else last
 
 -- the rows of the jobs that a share has of points that follow one another, from one on, are added
-unfoldable pub AddsParts : Common → Share → ℕ → ℕ → List ℕ → List Alternative → List ℕ → List ℕ → Type 0
+unfoldable pub AddsParts : Common → Share → ℕ → ℕ → List ℕ → List StudyPoint → List ℕ → List ℕ → Type 0
 AddsParts common share runs number last [] old new = new ≡ old
 AddsParts common share runs number last (point ∷ points) old new =
     (middle : List ℕ)
@@ -41,38 +41,38 @@ AddsParts common share runs number last (point ∷ points) old new =
     (last_header (run_at share.first number runs) (run_at share.end number runs) last point) points middle new
 
 -- where all went well, the rows of a part are added, or those of a share; the first text is the line before the last rows
-abbrev pub PutsPart : {E : Type 0} → Result (Unit {0}) E → declared_rows.Common → ℕ → ℕ → Vec ℕ Global → Alternative → Vec ℕ Global → Vec ℕ Global → Type 0
+abbrev pub PutsPart : {E : Type 0} → Result (Unit {0}) E → declared_rows.Common → ℕ → ℕ → Vec ℕ Global → StudyPoint → Vec ℕ Global → Vec ℕ Global → Type 0
 PutsPart result common first end last point old new =
     OnOk result (AddsPart (view common) first end last.items point old.items new.items)
 
-abbrev pub PutsParts : {E : Type 0} → Result (Unit {0}) E → declared_rows.Common → Share → ℕ → Vec ℕ Global → List Alternative
+abbrev pub PutsParts : {E : Type 0} → Result (Unit {0}) E → declared_rows.Common → Share → ℕ → Vec ℕ Global → List StudyPoint
     → Vec ℕ Global → Vec ℕ Global → Type 0
 PutsParts result common share runs last points old new =
     OnOk result (AddsParts (view common) share runs 0 last.items points old.items new.items)
 
 -- where a share has no job, the line before rows of the first point comes alone
-abbrev pub lone_header : Share → List Alternative → List ℕ
+abbrev pub lone_header : Share → List StudyPoint → List ℕ
 lone_header share [] = []
 lone_header share (point ∷ points) = if share.first == share.end then header_of point else []
 
 -- the rows of a share of these points
-abbrev pub AreShareRows : Common → Share → ℕ → List Alternative → List ℕ → Type 0
+abbrev pub AreShareRows : Common → Share → ℕ → List StudyPoint → List ℕ → Type 0
 AreShareRows common share runs points text =
     AddsParts common share runs 0 (lone_header share points) points (lone_header share points) text
 
 -- the rows of a share of an experiment with these points, by the digest of its model, and the share's number, of so many
-abbrev pub AreExperimentRows : List ℕ → Experiment → ℕ → ℕ → List Alternative → List ℕ → Type 0
+abbrev pub AreExperimentRows : List ℕ → Experiment → ℕ → ℕ → List StudyPoint → List ℕ → Type 0
 AreExperimentRows model experiment number shares points text =
     AreShareRows (common_by model points experiment) (share_of (jobs_of points experiment) number shares)
     experiment.runs points text
 
 -- the same by what the code has of a share
-abbrev pub ArePartRows : List ℕ → Experiment → Part → List Alternative → List ℕ → Type 0
+abbrev pub ArePartRows : List ℕ → Experiment → Part → List StudyPoint → List ℕ → Type 0
 ArePartRows model experiment part points text = AreExperimentRows model experiment part.number part.shares points text
 
 -- the rows of a share of an experiment, by its number, of so many
 pub record IsShareOf (text : List ℕ) (experiment : Experiment) (number shares : ℕ) (out : List ℕ) : Type 0 where
-  pub points : List Alternative
+  pub points : List StudyPoint
   pub asked : ArePoints text experiment.parameters experiment.count points
   pub rows : AreExperimentRows (digest text) experiment number shares points out
 

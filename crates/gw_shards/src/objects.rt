@@ -8,7 +8,7 @@ ghost use Rattle.gw_study.specs.Seeds.{seeds_of_run};
 ghost use Rattle.gw_shards.specs.Objects as model;
 ghost use Rattle.gw_shards.specs.Objects.{IsObjectAnswer};
 
-use gw_alternatives::{Alternative, NoAlternative, points_by_words};
+use gw_alternatives::{NoAlternative, StudyPoint, points_by_words};
 use gw_answers::status::{ENDED, REFUSED};
 use gw_answers::{Answer, Refusal, answer_refusal};
 use gw_fields::Items;
@@ -86,7 +86,7 @@ fn reseeded_bytes(alloc: Global, bytes: &[u8], run: u32, count: u64) -> Result<A
 }
 
 /// The object of a run of a point.
-fn object_of_point(alloc: Global, point: &Alternative, run: u32) -> Result<Answer, Memory>
+fn object_of_point(alloc: Global, point: &StudyPoint, run: u32) -> Result<Answer, Memory>
     requires { run < 512 }
     ensures { model.Reseeds point.now.spec.parts run point.now.spec.count result }
 {
@@ -95,7 +95,7 @@ fn object_of_point(alloc: Global, point: &Alternative, run: u32) -> Result<Answe
 }
 
 /// The object of a run of the first of these points.
-fn object_of(alloc: Global, points: &[Alternative], run: u32) -> Result<Answer, Memory>
+fn object_of(alloc: Global, points: &[StudyPoint], run: u32) -> Result<Answer, Memory>
     requires { run < 512 }
     ensures { AnswersAs result (model.IsFirstObject points.now run) }
 {

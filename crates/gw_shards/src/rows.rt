@@ -11,7 +11,7 @@ ghost use Rattle.gw_shards.specs.Rows as model;
 ghost use Rattle.gw_shards.specs.Rows.{AreRequestRows, view};
 
 use crate::request::RowsRequest;
-use gw_alternatives::{Alternative, NoAlternative, points_by_words};
+use gw_alternatives::{NoAlternative, StudyPoint, points_by_words};
 use gw_answers::Answer;
 use gw_answers::status::{ENDED, REFUSED};
 use gw_figures::{Figure, Run, figures};
@@ -37,7 +37,7 @@ pub(crate) struct Common<'a> {
 
 /// Of what the runs of a point are some.
 #[tactic(auto, using(crate::proofs::Runs::may_be_read))]
-fn origin_of(alloc: Global, common: &Common<'_>, point: &Alternative) -> Result<Origin, Memory>
+fn origin_of(alloc: Global, common: &Common<'_>, point: &StudyPoint) -> Result<Origin, Memory>
     ensures source { IfOk result (λ origin. source_of origin ≡ model.source (model.view common.now) point.now) }
     ensures may { OnOk result (model.MayBeRead (model.view common.now) point.now) }
 {
@@ -81,7 +81,7 @@ fn put_point<T: Threads + Sync + Eprint>(
     alloc: Global,
     out: &mut Vec<u8>,
     common: &Common<'_>,
-    point: &Alternative,
+    point: &StudyPoint,
     first: u32,
     end: u32,
 ) -> Result<(), Memory>
@@ -103,7 +103,7 @@ fn put_point<T: Threads + Sync + Eprint>(
 }
 
 /// The line before the rows of a point.
-fn header_of(alloc: Global, point: &Alternative) -> Result<Vec<u8>, Memory>
+fn header_of(alloc: Global, point: &StudyPoint) -> Result<Vec<u8>, Memory>
     ensures { IfOk result (λ header. header.items ≡ model.header_of point.now) }
 {
     let figures = figures(alloc, point.spec.verified_object().object().parts())?;
@@ -117,7 +117,7 @@ pub(crate) fn put_header_if_other(
     alloc: Global,
     out: &mut Vec<u8>,
     last: &mut Vec<u8>,
-    point: &Alternative,
+    point: &StudyPoint,
 ) -> Result<(), Memory>
     ensures added { OnOk result (out.new.items
         ≡ out.old.items ++ model.header_unless last.old.items point.now) }
@@ -140,7 +140,7 @@ pub(crate) fn put_rows_of<T: Threads + Sync + Eprint>(
     out: &mut Vec<u8>,
     last: &mut Vec<u8>,
     common: &Common<'_>,
-    point: &Alternative,
+    point: &StudyPoint,
     first: u32,
     end: u32,
 ) -> Result<(), Memory>
@@ -161,7 +161,7 @@ fn put_points<T: Threads + Sync + Eprint>(
     out: &mut Vec<u8>,
     last: &mut Vec<u8>,
     common: &Common<'_>,
-    points: &[Alternative],
+    points: &[StudyPoint],
     first: u32,
     end: u32,
 ) -> Result<(), Memory>
@@ -193,7 +193,7 @@ fn told<T: Threads + Sync + Eprint>(
     rt: &T,
     alloc: Global,
     common: &Common<'_>,
-    points: &[Alternative],
+    points: &[StudyPoint],
     request: &RowsRequest,
 ) -> Result<Answer, Memory>
     requires { (request.now.first ≤ request.now.end) × (request.now.end ≤ 512) }

@@ -8,7 +8,7 @@ ghost use Rattle.gw_shards.specs.Rows.{view, digest as digest_text};
 ghost use Rattle.gw_shards.specs.Shares as model;
 
 use crate::rows::{Common, put_header_if_other, put_rows_of, refused};
-use gw_alternatives::{Alternative, NoAlternative, points_by_words};
+use gw_alternatives::{NoAlternative, StudyPoint, points_by_words};
 use gw_answers::Answer;
 use gw_answers::status::ENDED;
 use gw_experiment::{Experiment, NoExperiment, Share, experiment_in, runs_of_point};
@@ -37,7 +37,7 @@ fn put_part<T: Threads + Sync + Eprint>(
     out: &mut Vec<u8>,
     last: &mut Vec<u8>,
     common: &Common<'_>,
-    point: &Alternative,
+    point: &StudyPoint,
     first: u32,
     end: u32,
 ) -> Result<(), Memory>
@@ -59,7 +59,7 @@ fn put_parts<T: Threads + Sync + Eprint>(
     out: &mut Vec<u8>,
     last: &mut Vec<u8>,
     common: &Common<'_>,
-    points: &[Alternative],
+    points: &[StudyPoint],
     share: Share,
     runs: u32,
 ) -> Result<(), Memory>
@@ -78,7 +78,7 @@ fn put_lone_header(
     alloc: Global,
     out: &mut Vec<u8>,
     last: &mut Vec<u8>,
-    points: &[Alternative],
+    points: &[StudyPoint],
     share: Share,
 ) -> Result<(), Memory>
     requires { last.old.items ≡ [] }
@@ -97,7 +97,7 @@ fn put_share<T: Threads + Sync + Eprint>(
     alloc: Global,
     out: &mut Vec<u8>,
     common: &Common<'_>,
-    points: &[Alternative],
+    points: &[StudyPoint],
     share: Share,
     runs: u32,
 ) -> Result<(), Memory>
@@ -126,7 +126,7 @@ fn share_of_points<T: Threads + Sync + Eprint>(
     rt: &T,
     alloc: Global,
     digest: &[u8],
-    points: &[Alternative],
+    points: &[StudyPoint],
     experiment: &Experiment,
     part: Part,
 ) -> Result<Answer, Memory>

@@ -5,7 +5,7 @@ ghost use Rattle.gw_rows.specs.Rows.{texts};
 ghost use Rattle.gw_summary.specs.Holding.{HasNoNames};
 
 use gw_object::Memory;
-use gw_points::{NoPoint, Parameter, parameter_in};
+use gw_parameters::{NoPoint, Parameter, parameter_in};
 use itoa::Buffer;
 use std::alloc::Global;
 

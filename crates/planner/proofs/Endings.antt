@@ -22,7 +22,7 @@ use Rattle.gw_study.specs.declared.request.StudyRequest.{StudyRequest}
 use Rattle.gw_alternatives.specs.declared.form.Form.{Form}
 use Rattle.gw_alternatives.specs.Alternatives.{ArePoints, AreModels}
 use Rattle.gw_alternatives.specs.Told.{IsAnswerAbout, IsToldOr}
-use Rattle.gw_alternatives.specs.declared.alternative.Alternative.{Alternative}
+use Rattle.gw_alternatives.specs.declared.study_point.StudyPoint.{StudyPoint}
 use Rattle.gw_shards.specs.Objects.{IsSpelled, IsFirstObject}
 use Rattle.gw_shards.specs.Shares.{IsShareOr}
 use Rattle.gw_command_line.specs.Words.{Demand, RunsDemand, LoneDemand}
@@ -129,7 +129,7 @@ object_end : (parts : Parts) (out : List ℕ) (status : ℕ) → IsSpelled parts
 object_end parts out status (inl h) = inl h.0
 object_end parts out status (inr h) = inr h
 
-first_object : (points : List Alternative) (run : ℕ) (out : List ℕ) (status : ℕ) → IsFirstObject points run out status → IsEnd status
+first_object : (points : List StudyPoint) (run : ℕ) (out : List ℕ) (status : ℕ) → IsFirstObject points run out status → IsEnd status
 first_object [] run out status h = absurd h
 first_object (point ∷ points) run out status h = object_end _ out status h
 

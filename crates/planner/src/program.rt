@@ -22,7 +22,6 @@ use gw_planner::{answer, answer_study, picture};
 use gw_streams::{Input, Output};
 use std::alloc::Global;
 use std::io::{Eprint, Read, Write};
-use std::sync::Wait;
 use std::thread::Threads;
 
 /// Reads all that is to be read, and then answers it.
@@ -91,7 +90,7 @@ pub fn ask_chart<R: Read, W: Write>(
 }
 
 /// Reads all that is to be read, and then makes the runs that are asked for.
-fn read_and_study<R: Read, T: Threads + Wait + Sync + Eprint>(
+fn read_and_study<R: Read, T: Threads + Sync + Eprint>(
     rt: &T,
     alloc: Global,
     study: &Study<'_>,
@@ -109,9 +108,9 @@ fn read_and_study<R: Read, T: Threads + Wait + Sync + Eprint>(
     or_no_memory(answer_study(rt, alloc, study, is_pair, &input))
 }
 
-/// Makes many runs of a model, or of two models: reads all of the input, and writes the answer, as [`ask`] does. It waits for its
-/// workers, and tells on standard error how far it is.
-pub fn ask_study<R: Read, W: Write, T: Threads + Wait + Sync + Eprint>(
+/// Makes many runs of a model, or of two models: reads all of the input, and writes the answer, as [`ask`] does. It tells on
+/// standard error how far the runs are.
+pub fn ask_study<R: Read, W: Write, T: Threads + Sync + Eprint>(
     rt: &T,
     alloc: Global,
     study: &Study<'_>,
@@ -139,7 +138,7 @@ pub fn tell_code<W: Write>(alloc: Global, code: u16, writer: &mut Output<W>) -> 
 }
 
 /// The program: the command that its words name. On any other words it writes the usage line, with status 2, and reads nothing.
-pub fn dispatch<R: Read, W: Write, T: Threads + Wait + Sync + Eprint>(
+pub fn dispatch<R: Read, W: Write, T: Threads + Sync + Eprint>(
     rt: &T,
     alloc: Global,
     words: &[String],

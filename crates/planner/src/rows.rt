@@ -54,8 +54,7 @@ fn read_and_run<R: Read, T: Threads + Sync + Eprint>(
     or_no_memory(rows_of(rt, alloc, runs, &input))
 }
 
-/// Makes runs of a model: reads all of it, and writes their rows. It waits for its workers, and tells on standard error how far
-/// it is.
+/// Makes runs of a model: reads all of it, and writes their rows. It tells on standard error how far the runs are.
 pub fn ask_runs<R: Read, W: Write, T: Threads + Sync + Eprint>(
     rt: &T,
     alloc: Global,

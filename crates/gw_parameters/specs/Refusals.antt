@@ -1,0 +1,53 @@
+-- The refusal of a parameter, as it is printed.
+use Rattle.std.specs.Prelude.{◌≡◌, ℕ, List, [], ◌++◌, codes, Option, Some, None, Result, MatchResult, Vec}
+use Rattle.std.specs.Fmt.{decimal}
+use Rattle.std.specs.Global.{Global}
+use Rattle.gw_parameters.specs.declared.fault.NoPoint.{NoPoint}
+use Rattle.gw_parameters.specs.declared.fault.NoPoint.TheVariants.{Refused, Memory}
+use Rattle.gw_parameters.specs.declared.fault.ParameterFault.{ParameterFault}
+use Rattle.gw_parameters.specs.declared.fault.ParameterFault.TheVariants.{Form, Points, Names, Unknown, Doubled, NotPlain, Figure}
+
+-- why, in words
+abbrev pub reason_of : ParameterFault → List ℕ
+reason_of Form = codes "a parameter is a name, =, and whole numbers with commas between"
+reason_of Points = codes "there are more than 64 points"
+reason_of Names = codes "there are at most two names, and each stands once"
+reason_of Unknown = codes "no line of the model is NAME STORAGE, NAME EQU or INITIAL X$NAME, of this name"
+reason_of (Doubled line) = codes "more than one line of the model gives this name a number"
+reason_of (NotPlain line) = codes "what stands on its line isn't a whole number"
+reason_of Figure = codes "no figure of the model has this name"
+
+-- the line at fault, if there is one
+abbrev pub line_of : ParameterFault → Option ℕ
+line_of Form = None
+line_of Points = None
+line_of Names = None
+line_of Unknown = None
+line_of (Doubled line) = Some line
+line_of (NotPlain line) = Some line
+line_of Figure = None
+
+abbrev pub place_of : Option ℕ → List ℕ
+place_of None = []
+place_of (Some line) = codes " line " ++ decimal line
+
+-- the code and its name, the name of the parameter, and the line at fault
+unfoldable pub head : List ℕ → ParameterFault → List ℕ
+head name fault = codes "refused 83 Parameter at " ++ name ++ place_of (line_of fault)
+
+-- why, on a line of its own
+unfoldable pub reason : ParameterFault → List ℕ
+reason fault = codes "\nwrong: " ++ reason_of fault ++ codes "\n"
+
+-- both
+abbrev pub refusal_text : List ℕ → ParameterFault → List ℕ
+refusal_text name fault = head name fault ++ reason fault
+
+-- this text, or want of memory
+abbrev pub Makes : List ℕ → Result (Vec ℕ Global) NoPoint → Type 0
+Makes text result = MatchResult result (λ made. made.items ≡ text) (λ none. none ≡ Memory)
+
+-- there is no point for this reason, or for want of memory
+abbrev pub Tells : List ℕ → ParameterFault → NoPoint → Type 0
+Tells name fault (Refused text) = text.items ≡ refusal_text name fault
+Tells name fault Memory = Unit {0}
