@@ -11,8 +11,9 @@ use crate::plot::{
     Plot, colour_of, floor_of, height_of, put_below, put_levels, put_title, put_unit,
 };
 use gw_drawing::numbers::part_of_length;
-use gw_drawing::text::{put, put_signed, put_tenths, put_text_at};
+use gw_drawing::text::{put_signed, put_tenths, put_text_at};
 use gw_object::{Memory, Table};
+use gw_writing::put;
 
 /// The greatest of these, and at least 1.
 #[tactic(auto, using(crate::proofs::Series::greatest_more, crate::proofs::Series::greatest_none))]

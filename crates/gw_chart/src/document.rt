@@ -3,16 +3,17 @@
 ghost use Rattle.std.specs.Prelude.{◌≡◌, ◌≤◌, ◌<◌, ◌+◌, ◌*◌, length};
 ghost use Rattle.gw_chart.specs.Document as model;
 ghost use Rattle.gw_chart.specs.Views as views;
-ghost use Rattle.gw_report.specs.Report.{Puts};
+ghost use Rattle.gw_writing.specs.Text.{Puts};
 
 use crate::bars::put_bar_panel;
 use crate::line::{limit_of, put_line_panel};
 use crate::plot::{Plot, panel_height, plot_of};
 use crate::samples::Samples;
 use crate::window::Window;
-use gw_drawing::text::{put, put_escaped, put_grouped, put_tenths};
+use gw_drawing::text::{put_escaped, put_grouped, put_tenths};
 use gw_object::{Entity, Kind, Memory};
 use gw_scan::Sim;
+use gw_writing::put;
 
 /// How high the panel of an entity is; 0 where it has none.
 fn height_of(entity: &Entity) -> u64

@@ -7,7 +7,7 @@ ghost use Rattle.gw_chart.specs.Plots.{height_at as place_of_number};
 ghost use Rattle.gw_chart.specs.Lines as model;
 ghost use Rattle.gw_chart.specs.Views as views;
 ghost use Rattle.gw_chart.specs.Views.{of_bands, of_curve};
-ghost use Rattle.gw_report.specs.Report.{Puts};
+ghost use Rattle.gw_writing.specs.Text.{Puts};
 
 use crate::axis::Axis;
 use crate::bands::{Band, band_of};
@@ -19,8 +19,9 @@ use crate::plot::{
 use crate::samples::Samples;
 use crate::window::{Window, span_of};
 use gw_drawing::numbers::{part_of_length, round_step};
-use gw_drawing::text::{put, put_label, put_tenths};
+use gw_drawing::text::{put_label, put_tenths};
 use gw_object::{Items, Kind, Memory};
+use gw_writing::put;
 
 /// What was in an entity, to be drawn.
 #[derive(Clone, Copy)]

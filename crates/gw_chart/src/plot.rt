@@ -6,8 +6,9 @@ ghost use Rattle.gw_chart.specs.Plots as model;
 use crate::axis::Axis;
 use crate::levels::{below_of, count_of, number_at, reach_of};
 use gw_drawing::numbers::part_of_length;
-use gw_drawing::text::{put, put_escaped, put_signed, put_tenths, put_text_at};
+use gw_drawing::text::{put_escaped, put_signed, put_tenths, put_text_at};
 use gw_object::{Kind, Memory};
+use gw_writing::put;
 
 /// What is drawn of an entity.
 #[derive(Clone, Copy, PartialEq, Eq)]

@@ -6,7 +6,7 @@ ghost use Rattle.gw_chart.specs.Sheets as model;
 ghost use Rattle.gw_chart.specs.Sheets.{csv_row};
 ghost use Rattle.gw_chart.specs.Views as views;
 ghost use Rattle.gw_chart.specs.Views.{of_series};
-ghost use Rattle.gw_report.specs.Report.{Puts};
+ghost use Rattle.gw_writing.specs.Text.{Puts};
 
 use crate::bands::{Band, band_of};
 use crate::line::{band_at, content};

@@ -3,8 +3,8 @@
 ghost use Rattle.std.specs.Prelude.{◌≡◌, ◌≤◌, ◌^◌, ◌++◌, unsigned_abs, OnOk};
 ghost use Rattle.gw_comparison.specs.Amounts as model;
 
-use gw_drawing::text::{put, put_number};
 use gw_object::Memory;
+use gw_writing::{put, put_number};
 use itoa::Buffer;
 
 /// What a number has before its first digit.

@@ -10,8 +10,9 @@ use crate::frame::{frame_of, place_of, reach_of};
 use crate::marks::{Mark, marks_of};
 use crate::point::Point;
 use gw_drawing::numbers::part_of_length;
-use gw_drawing::text::{put, put_escaped, put_grouped, put_tenths, put_text_at};
+use gw_drawing::text::{put_escaped, put_grouped, put_tenths, put_text_at};
 use gw_object::Memory;
+use gw_writing::put;
 use std::alloc::Global;
 
 /// What a picture begins with.

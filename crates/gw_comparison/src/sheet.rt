@@ -11,9 +11,9 @@ use crate::amounts::put_millionths;
 use crate::differences::account_between;
 use crate::point::{Column, Point};
 use csv::{Terminator, WriterBuilder};
-use gw_drawing::text::put_number;
 use gw_object::Memory;
 use gw_statistics::Summary;
+use gw_writing::put_number;
 use std::alloc::Global;
 
 /// A record of fields, with its end.

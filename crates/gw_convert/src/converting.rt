@@ -21,11 +21,12 @@ use crate::rules::{Rule, Uses};
 use crate::statement::{Kind, Statement, statement_of};
 use crate::timed::{change_classes, change_test, change_times};
 use crate::times::is_clock;
-use crate::writing::{put, put_changed};
+use crate::writing::put_changed;
 use gw_forms::line::{Piece, pieces_of, place_of_word};
 use gw_text_tokens::is_spelled;
 use gw_text_tokens::lines::{is_skipped, line_at, lines_of};
 use gw_text_tokens::tokens::{Token, next_token};
+use gw_writing::put;
 use std::alloc::{AllocError, Global};
 
 /// A text that was converted.

@@ -5,7 +5,8 @@ use crate::functions::{Function, Point};
 use crate::numbers::{Number, unit_of};
 use crate::plan::Plan;
 use crate::steps::{EXPONENTIAL, NORMAL};
-use crate::writing::{put, put_name, put_number};
+use crate::writing::put_name;
+use gw_writing::{put, put_number};
 use std::alloc::{AllocError, Global};
 
 /// A step of a function: up to which share of all draws it goes, and its value, both in millionths.
@@ -205,18 +206,15 @@ fn put_points(out: &mut Vec<u8>, steps: &[Step], places: u32) -> Result<(), Allo
         from = step.below;
         put(out, if place % 10 == 0 { "\n" } else { "/" })?;
         put_share(out, step.below)?;
-        put(out, ",")?;
-        put_number(out, value.clamp(0, 1 << 60) as u64)?;
+        put_number(out, ",", value.clamp(0, 1 << 60) as u64)?;
     }
     Ok(())
 }
 
 /// What a FUNCTION of random numbers says before its points, behind its name.
 fn put_head(out: &mut Vec<u8>, stream: u64, count: usize) -> Result<(), AllocError> {
-    put(out, " FUNCTION  RN")?;
-    put_number(out, stream)?;
-    put(out, ",D")?;
-    put_number(out, count as u64)
+    put_number(out, " FUNCTION  RN", stream)?;
+    put_number(out, ",D", count as u64)
 }
 
 /// The steps of a draw.

@@ -3,7 +3,7 @@
 use crate::numbers::unit_of;
 use crate::plan::Plan;
 use crate::rules::{RULES, Rule, Uses};
-use crate::writing::{put, put_number};
+use gw_writing::{put, put_number};
 use std::alloc::AllocError;
 
 /// Ten to the power of so many places, at most six.
@@ -17,13 +17,12 @@ fn put_factor(out: &mut Vec<u8>, plan: &Plan<'_>) -> Result<(), AllocError> {
     if plan.places == 0 {
         return put(out, "One clock unit is the model's own unit of time.\n");
     }
-    put(out, "One clock unit is 1/")?;
-    put_number(out, factor_of(plan.places))?;
+    put_number(out, "One clock unit is 1/", factor_of(plan.places))?;
     put(
         out,
         " of the model's unit of time: each time is multiplied by ",
     )?;
-    put_number(out, factor_of(plan.places))?;
+    put_number(out, "", factor_of(plan.places))?;
     put(out, ".\n")
 }
 
@@ -38,8 +37,7 @@ fn put_use(out: &mut Vec<u8>, rule: Rule, count: usize) -> Result<(), AllocError
         },
     )?;
     put(out, rule.title())?;
-    put(out, " (")?;
-    put_number(out, count as u64)?;
+    put_number(out, " (", count as u64)?;
     put(out, ")\n")
 }
 

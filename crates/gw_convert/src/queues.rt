@@ -4,11 +4,12 @@ use crate::changes::{Changes, Replacement};
 use crate::plan::Plan;
 use crate::rules::Rule;
 use crate::statement::{Kind, Statement};
-use crate::writing::{put, put_name};
+use crate::writing::put_name;
 use gw_forms::line::whole_word;
 use gw_forms::testing::{class_of_numbered, is_among};
 use gw_text_tokens::is_spelled;
 use gw_text_tokens::tokens::Token;
+use gw_writing::put;
 use std::alloc::AllocError;
 
 /// Writes a QTABLE as a TABLE of the time since the MARK of its number.

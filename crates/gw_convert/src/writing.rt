@@ -2,19 +2,8 @@
 
 use crate::changes::{Change, Replacement};
 use crate::plan::Plan;
-use itoa::Buffer;
+use gw_writing::{put, put_number};
 use std::alloc::AllocError;
-
-/// Words, behind what there is.
-pub(crate) fn put(out: &mut Vec<u8>, words: &str) -> Result<(), AllocError> {
-    out.extend_from_slice(words.as_bytes())
-}
-
-/// A number, behind what there is.
-pub(crate) fn put_number(out: &mut Vec<u8>, number: u64) -> Result<(), AllocError> {
-    let mut buffer = Buffer::new();
-    out.extend_from_slice(buffer.format(number).as_bytes())
-}
 
 /// A new name: a word, as many `_` as keep it apart from the names of the text, and a number.
 pub(crate) fn put_name(
@@ -27,7 +16,7 @@ pub(crate) fn put_name(
     for _underscore in 0..plan.underscores {
         out.push(b'_')?;
     }
-    put_number(out, number as u64)
+    put_number(out, "", number as u64)
 }
 
 /// What is written in place of bytes of a line, behind what there is.
@@ -38,7 +27,7 @@ fn put_replacement(
 ) -> Result<(), AllocError> {
     match replacement {
         Replacement::Words(words) => out.extend_from_slice(words),
-        Replacement::Number(number) => put_number(out, number),
+        Replacement::Number(number) => put_number(out, "", number),
         Replacement::Drawn(number) => {
             put(out, "FN$")?;
             put_name(out, plan, "TIMES", number)

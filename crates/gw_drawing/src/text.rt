@@ -5,23 +5,8 @@ ghost use Rattle.std.specs.Fmt.{decimal};
 ghost use Rattle.gw_drawing.specs.Text as model;
 
 use gw_object::Memory;
-use itoa::{Buffer, Integer};
-
-/// A text behind others.
-pub fn put(out: &mut Vec<u8>, text: &str) -> Result<(), Memory>
-    ensures { OnOk result (out.new.items ≡ out.old.items ++ text.now) }
-{
-    out.extend_from_slice(text.as_bytes())
-}
-
-/// A text, and a number behind it.
-pub fn put_number<I: Integer>(out: &mut Vec<u8>, text: &str, number: I) -> Result<(), Memory>
-    ensures { OnOk result (out.new.items ≡ out.old.items ++ text.now ++ I.text number) }
-{
-    let mut buffer = Buffer::new();
-    put(out, text)?;
-    put(out, buffer.format(number))
-}
+use gw_writing::{put, put_number};
+use itoa::Buffer;
 
 /// A byte as it stands in XML.
 fn put_escaped_byte(out: &mut Vec<u8>, byte: u8) -> Result<(), Memory>

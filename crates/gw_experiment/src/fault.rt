@@ -4,7 +4,7 @@ ghost use Rattle.std.specs.Prelude.{◌≡◌, ◌++◌, OnOk, IfOk};
 ghost use Rattle.gw_experiment.specs.Refusals as model;
 
 use gw_object::Memory;
-use itoa::Buffer;
+use gw_writing::{put, put_number};
 use std::alloc::Global;
 
 /// The code of the refusal of an experiment (docs/refusals.md).
@@ -54,21 +54,12 @@ fn reason_of(fault: ExperimentFault) -> &'static str
     }
 }
 
-/// A text behind others.
-fn put(out: &mut Vec<u8>, text: &str) -> Result<(), Memory>
-    ensures { OnOk result (out.new.items ≡ out.old.items ++ text.now) }
-{
-    out.extend_from_slice(text.as_bytes())
-}
-
 /// The code and its name, and the number of the line.
 #[tactic(auto, unfolding(crate::specs::Refusals::head))]
 fn put_head(out: &mut Vec<u8>, line: usize) -> Result<(), Memory>
     ensures { OnOk result (out.new.items ≡ out.old.items ++ model.head line) }
 {
-    let mut buffer = Buffer::new();
-    put(out, "refused 85 Experiment at line ")?;
-    put(out, buffer.format(line))
+    put_number(out, "refused 85 Experiment at line ", line)
 }
 
 /// Why, on a line of its own.

@@ -2,8 +2,8 @@
 
 use crate::known::{Flow, block_of, name_of, put_parameter_of};
 use gw_object::{Block, Memory, Mode, Operand};
-use gw_report::text::{put, put_number};
 use gw_rounds::{Cause, Hindrance};
+use gw_writing::{put, put_number};
 
 /// A parameter, as an ASSIGN names it.
 fn put_name_of(out: &mut Vec<u8>, flow: Flow<'_>, parameter: u8) -> Result<(), Memory> {

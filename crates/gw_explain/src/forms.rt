@@ -2,7 +2,7 @@
 
 ghost use Rattle.std.specs.Prelude.{◌≡◌, ◌++◌, IfOk, IfSome, OnOk};
 ghost use Rattle.std.specs.List.{flat_map};
-ghost use Rattle.gw_report.specs.Report.{Puts};
+ghost use Rattle.gw_writing.specs.Text.{Puts};
 ghost use Rattle.gw_forms.specs.Places.{IsWithin};
 ghost use Rattle.gw_explain.specs.Shown.{bytes_of};
 ghost use Rattle.gw_explain.specs.Marks.{AddsMarks, blank_under, mark_under, front_of_line, marks_under, goes_on as goes_on_with};
@@ -11,7 +11,7 @@ ghost use Rattle.gw_explain.specs.Sitting.{IsSiteOf};
 use crate::lines::text_line;
 use gw_forms::{Form, Found, find_form};
 use gw_object::{Fault, Memory, Place};
-use gw_report::text::{put, put_number};
+use gw_writing::{put, put_number};
 use std::alloc::Global;
 
 /// A form that is left out, on the line of a number.

@@ -4,9 +4,9 @@ use gw_object::{
     Block, Entity, Fault, Kind, Memory, Parts, Place, Split, TableKind, TableParameter, TableState,
     Units,
 };
-use gw_report::text::{put, put_number};
 use gw_rules::chain_row;
 use gw_rules::flow_codes::CHAIN_STATE;
+use gw_writing::{put, put_number};
 use indexmap::IndexMap;
 use std::alloc::Global;
 

@@ -1,14 +1,14 @@
 //! The lines of a model text that a refusal is about.
 
 ghost use Rattle.std.specs.Prelude.{◌≡◌, take, slice_get, option_map};
-ghost use Rattle.gw_report.specs.Report.{Puts};
+ghost use Rattle.gw_writing.specs.Text.{Puts};
 ghost use Rattle.gw_source_lines.specs.Sites.{sites_told};
 ghost use Rattle.gw_explain.specs.Shown as shown;
 ghost use Rattle.gw_explain.specs.Shown.{bytes_of, shown_lines};
 
 use gw_object::{Memory, Place};
-use gw_report::text::{put, put_number};
 use gw_source_lines::Sources;
+use gw_writing::{put, put_number};
 
 /// The most bytes of a line that are shown.
 const MOST_SHOWN: usize = 1000;

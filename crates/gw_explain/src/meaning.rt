@@ -1,7 +1,7 @@
 //! What a code means, and the words on it.
 
 ghost use Rattle.std.specs.Prelude.{◌≡◌, ◌≤◌, length, drop, IfOk, OnOk};
-ghost use Rattle.gw_report.specs.Report.{Puts};
+ghost use Rattle.gw_writing.specs.Text.{Puts};
 ghost use Rattle.gw_answers.specs.Status.{end_status};
 ghost use Rattle.gw_explain.specs.Codes.{lines_of_words, advice_lines};
 ghost use Rattle.gw_explain.specs.Explanation.{IsAdvised};
@@ -11,7 +11,7 @@ use crate::advice::advice_on;
 use gw_answers::status::ENDED;
 use gw_answers::{Answer, Refusal, answer_refusal};
 use gw_object::{Fault, Memory, Place};
-use gw_report::text::put;
+use gw_writing::put;
 use std::alloc::Global;
 
 /// A line for what is wrong and one for how to mend it, with what is known between them, behind what there is.

@@ -4,9 +4,9 @@ use crate::known::put_name;
 use gw_assemble::assemble;
 use gw_notes::{Note, notes};
 use gw_object::{Entity, Kind, Memory, Parts};
-use gw_report::text::{put, put_number};
 use gw_source_lines::{Sources, sources};
 use gw_text::{Model, parse};
+use gw_writing::{put, put_number};
 use std::alloc::Global;
 
 /// What an entity is called, by its kind.

@@ -1,15 +1,15 @@
 //! A round on which no time passes and that has no weight certificate, with the lines of its blocks, in words.
 
 ghost use Rattle.std.specs.Prelude.{◌≡◌, slice_get};
-ghost use Rattle.gw_report.specs.Report.{Puts};
+ghost use Rattle.gw_writing.specs.Text.{Puts};
 ghost use Rattle.gw_explain.specs.Rounds as model;
 
 use crate::causes::{named_blocks, put_cause, put_way_out};
 use crate::known::Flow;
 use crate::lines::{Text, put_blocks};
 use gw_object::{Memory, Place};
-use gw_report::text::{put, put_number};
 use gw_rounds::{Cause, Finding, Hindrance, find_round};
+use gw_writing::{put, put_number};
 use std::alloc::Global;
 
 /// The most blocks of a round that are told.

@@ -2,8 +2,8 @@
 
 use crate::known::{Flow, put_at_block, put_parameter_of};
 use gw_object::{Memory, Place};
-use gw_report::text::{put, put_number};
 use gw_rules::slope_at;
+use gw_writing::{put, put_number};
 
 /// How the weight of a block grows, if it does.
 fn put_slope_of(out: &mut Vec<u8>, flow: Flow<'_>, number: u16) -> Result<(), Memory> {

@@ -2,10 +2,10 @@
 
 use crate::notes::put_notes;
 use gw_object::{Entity, Kind, Memory, Parts};
-use gw_report::text::{put, put_number};
 use gw_rules::Verified;
 use gw_source_lines::{Sources, sources};
 use gw_text::Model;
+use gw_writing::{put, put_number};
 use std::alloc::Global;
 
 /// A kind of entities.

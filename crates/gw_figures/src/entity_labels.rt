@@ -7,7 +7,7 @@ ghost use Rattle.gw_figures.specs.Labels.{AddsFigures, Label, labels, plain};
 use crate::figure::{Figure, put_content, put_detail, put_mean, put_named, put_plain};
 use crate::percentiles::upper_limit;
 use gw_object::{Entity, Kind, Memory, Table};
-use gw_report::text::{put, put_number};
+use gw_writing::{put, put_number};
 use std::alloc::Global;
 
 /// What the figures of an entity begin with: the word of its kind, its name, and a blank.

@@ -8,7 +8,7 @@ use crate::entity_labels::put_entity;
 use crate::figure::{Figure, put_detail, put_plain};
 use gw_object::{Block, Entity, Memory, Parts};
 use gw_report::block_word;
-use gw_report::text::{put, put_number};
+use gw_writing::{put, put_number};
 use std::alloc::Global;
 
 /// Adds a figure of how the run ended.

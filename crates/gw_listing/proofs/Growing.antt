@@ -5,10 +5,10 @@ use Rattle.gw_listing.specs.Lines.{Opening, Front, AddsLines, EndsLine}
 use Rattle.gw_listing.proofs.Adding.{fronted, joined}
 
 -- a word and a number, and then an end
-pub grown : {A E : Type 0} (old word number end middle new : List ℕ) (r : Result A E) → middle ≡ old ++ word ++ number
+pub grown : {A E : Type 0} (old word number end middle new : List ℕ) (r : Result A E) → middle ≡ old ++ (word ++ number)
     → OnOk r (new ≡ middle ++ end) → OnOk r (new ≡ old ++ (word ++ number ++ end))
 grown old word number end middle new (Ok x) first second =
-    second ∙ ap (λ m. m ++ end) (first ∙ append_assoc old word number) ∙ append_assoc old (word ++ number) end
+    second ∙ ap (λ m. m ++ end) first ∙ append_assoc old (word ++ number) end
 grown old word number end middle new (Err e) first second = tt
 
 -- a line, behind its front

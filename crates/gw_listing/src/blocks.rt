@@ -7,7 +7,7 @@ use gw_object::{
     LinkOrder, Logic, Loop, Memory, Operand, Plus, Priority, Save, Split, Spread, SwitchAction,
     Test, Units, Unlink,
 };
-use gw_report::text::{put, put_number};
+use gw_writing::{put, put_number};
 
 fn put_generate(out: &mut Vec<u8>, entities: &[Entity], generate: Generate) -> Result<(), Memory> {
     put(out, "GENERATE ")?;

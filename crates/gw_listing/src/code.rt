@@ -1,7 +1,7 @@
 //! Procedures, with their instructions.
 
 ghost use Rattle.std.specs.Prelude.{◌∷◌, [], Some, None, slice_get};
-ghost use Rattle.gw_report.specs.Report.{Puts};
+ghost use Rattle.gw_writing.specs.Text.{Puts};
 ghost use Rattle.gw_listing.specs.Lines.{Front, PutsLines};
 ghost use Rattle.gw_listing.specs.Shape.{procedure_front, procedure_head, takes_front, takes_opening, code_openings};
 
@@ -10,7 +10,7 @@ use crate::sections::{Section, put_section};
 use crate::text::end_line;
 use gw_num::{Binary, Unary};
 use gw_object::{Back, Entity, Instruction, Memory, Parts, Procedure, Sna};
-use gw_report::text::{put, put_number};
+use gw_writing::{put, put_number};
 use std::alloc::Global;
 
 /// The word of an operator between two values.

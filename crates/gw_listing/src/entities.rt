@@ -4,7 +4,7 @@ use crate::operands::{put_name, put_operand, put_units};
 use gw_object::{
     Entity, Function, Kind, Memory, ReturnRow, Table, TableKind, TableParameter, TableState, Units,
 };
-use gw_report::text::{put, put_number};
+use gw_writing::{put, put_number};
 
 /// The word of an entity's kind.
 fn kind_word(kind: &Kind) -> &'static str {

@@ -3,7 +3,7 @@
 use gw_object::{
     Attribute, Entity, EntityAttribute, Memory, Mode, Numbered, Operand, Spread, Units,
 };
-use gw_report::text::{put, put_number};
+use gw_writing::{put, put_number};
 
 /// The name of an entity, by its number from 0.
 pub(crate) fn put_name(out: &mut Vec<u8>, entities: &[Entity], number: u16) -> Result<(), Memory> {

@@ -10,8 +10,8 @@ ghost use Rattle.gw_listing.specs.Shape as shape;
 use crate::code::{put_code, put_head};
 use crate::sections::{Section, put_section};
 use gw_object::{Memory, Parts, Procedure};
-use gw_report::text::{put, put_number};
 use gw_source_lines::Sources;
+use gw_writing::{put, put_number};
 use std::alloc::Global;
 
 /// What a procedure takes, and its instructions, if it is there.

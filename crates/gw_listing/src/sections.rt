@@ -1,7 +1,7 @@
 //! The parts of an object that have a line each.
 
 ghost use Rattle.std.specs.Prelude.{◌≡◌, ◌<◌};
-ghost use Rattle.gw_report.specs.Report.{Puts};
+ghost use Rattle.gw_writing.specs.Text.{Puts};
 ghost use Rattle.gw_listing.specs.Lines.{PutsLines};
 ghost use Rattle.gw_listing.specs.Sections.{section_length, section_front, section_opening, section_openings};
 
@@ -10,7 +10,7 @@ use crate::code::put_instruction;
 use crate::entities::{put_entity, put_return_row, put_state};
 use crate::text::{end_line, put_slope_at, put_told};
 use gw_object::{Instruction, Memory, Parts};
-use gw_report::text::{put, put_number};
+use gw_writing::{put, put_number};
 use std::alloc::Global;
 
 /// Parts of one kind, each with a line of the listing.

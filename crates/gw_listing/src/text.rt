@@ -1,12 +1,12 @@
 //! Pieces of a line, and its end.
 
 ghost use Rattle.std.specs.Prelude.{slice_get, IfOk, OnOk};
-ghost use Rattle.gw_report.specs.Report.{Puts};
+ghost use Rattle.gw_writing.specs.Text.{Puts};
 ghost use Rattle.gw_listing.specs.Lines.{AreWords, EndsLine};
 ghost use Rattle.gw_listing.specs.Shape.{word_with_number, slope_words, slope_part};
 
 use gw_object::Memory;
-use gw_report::text::{put, put_number};
+use gw_writing::{put, put_number};
 use itoa::Integer;
 use std::alloc::Global;
 

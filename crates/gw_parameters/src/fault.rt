@@ -4,7 +4,7 @@ ghost use Rattle.std.specs.Prelude.{◌≡◌, ◌++◌, OnOk, IfOk};
 ghost use Rattle.gw_parameters.specs.Refusals as model;
 
 use gw_object::Memory;
-use itoa::Buffer;
+use gw_writing::{put, put_number};
 use std::alloc::Global;
 
 /// The code of the refusal of a parameter (docs/refusals.md).
@@ -65,23 +65,12 @@ fn line_of(fault: ParameterFault) -> Option<usize>
     }
 }
 
-/// A text behind others.
-fn put(out: &mut Vec<u8>, text: &[u8]) -> Result<(), Memory>
-    ensures { OnOk result (out.new.items ≡ out.old.items ++ text.now) }
-{
-    out.extend_from_slice(text)
-}
-
 /// The line at fault, behind what is told of it.
 fn put_line(out: &mut Vec<u8>, line: Option<usize>) -> Result<(), Memory>
     ensures { OnOk result (out.new.items ≡ out.old.items ++ model.place_of line) }
 {
     match line {
-        Some(line) => {
-            let mut buffer = Buffer::new();
-            put(out, b" line ")?;
-            put(out, buffer.format(line).as_bytes())
-        }
+        Some(line) => put_number(out, " line ", line),
         None => Ok(()),
     }
 }
@@ -91,8 +80,8 @@ fn put_line(out: &mut Vec<u8>, line: Option<usize>) -> Result<(), Memory>
 fn put_head(out: &mut Vec<u8>, name: &[u8], fault: ParameterFault) -> Result<(), Memory>
     ensures { OnOk result (out.new.items ≡ out.old.items ++ model.head name.now fault) }
 {
-    put(out, b"refused 83 Parameter at ")?;
-    put(out, name)?;
+    put(out, "refused 83 Parameter at ")?;
+    out.extend_from_slice(name)?;
     put_line(out, line_of(fault))
 }
 
@@ -101,9 +90,9 @@ fn put_head(out: &mut Vec<u8>, name: &[u8], fault: ParameterFault) -> Result<(),
 fn put_reason(out: &mut Vec<u8>, fault: ParameterFault) -> Result<(), Memory>
     ensures { OnOk result (out.new.items ≡ out.old.items ++ model.reason fault) }
 {
-    put(out, b"\nwrong: ")?;
-    put(out, reason_of(fault).as_bytes())?;
-    put(out, b"\n")
+    put(out, "\nwrong: ")?;
+    put(out, reason_of(fault))?;
+    put(out, "\n")
 }
 
 /// The refusal of a name, behind what is there.

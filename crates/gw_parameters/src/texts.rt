@@ -11,7 +11,7 @@ use crate::fault::{NoPoint, ParameterFault, no_point};
 use crate::operands::{cut_of, operand_of};
 use gw_object::Memory;
 use gw_text_tokens::lines::{line_at, lines_of};
-use itoa::Buffer;
+use gw_writing::{put, put_number};
 use std::alloc::Global;
 
 /// Whether a line gives a name a number.
@@ -42,30 +42,22 @@ fn number_of(lines: &[&[u8]], name: &[u8]) -> Result<usize, ParameterFault>
     }
 }
 
-/// A text behind others.
-fn put(out: &mut Vec<u8>, text: &[u8]) -> Result<(), Memory>
-    ensures { OnOk result (out.new.items ≡ out.old.items ++ text.now) }
-{
-    out.extend_from_slice(text)
-}
-
 /// A line and its end.
 fn put_line(out: &mut Vec<u8>, line: &[u8]) -> Result<(), Memory>
     ensures { OnOk result (out.new.items ≡ out.old.items ++ (line.now ++ 10 ∷ [])) }
 {
-    put(out, line)?;
-    put(out, b"\n")
+    out.extend_from_slice(line)?;
+    put(out, "\n")
 }
 
 /// What stands before a number, the number, and what follows it.
 fn joined_line(alloc: Global, before: &[u8], rest: &[u8], value: i64) -> Result<Vec<u8>, Memory>
     ensures { IfOk result (λ line. line.items ≡ with_number_between value (before.now, rest.now)) }
 {
-    let mut buffer = Buffer::new();
     let mut line = Vec::new(alloc);
-    put(&mut line, before)?;
-    put(&mut line, buffer.format(value).as_bytes())?;
-    put(&mut line, rest)?;
+    line.extend_from_slice(before)?;
+    put_number(&mut line, "", value)?;
+    line.extend_from_slice(rest)?;
     Ok(line)
 }
 

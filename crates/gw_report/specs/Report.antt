@@ -1,7 +1,6 @@
 -- The text of a report: one line per item, words separated by one space, each ended by LF.
-use Rattle.std.specs.Prelude.{◌≡◌, ℕ, ◌+◌, ◌/◌, ◌%◌, List, [], ◌∷◌, ◌++◌, codes, unsigned_abs, Result, OnOk, Vec}
+use Rattle.std.specs.Prelude.{◌≡◌, ℕ, ◌+◌, ◌/◌, ◌%◌, List, [], ◌∷◌, ◌++◌, codes, unsigned_abs}
 use Rattle.std.specs.Fmt.{decimal, signed_decimal}
-use Rattle.std.specs.Global.{Global}
 use Rattle.std.specs.Int.{from_bool}
 use Rattle.std.specs.Option.{unwrap_or}
 use Rattle.gw_object.specs.declared.blocks.Block.{Block}
@@ -20,10 +19,6 @@ use Rattle.gw_scan.specs.declared.sim.Status.TheVariants.{Running, Ended}
 use Rattle.gw_step.specs.Job.{Job, Progress, Alone, IsFinal}
 use Rattle.gw_object.specs.declared.parts.Parts.{Parts}
 use Rattle.gw_report.specs.Figures.{Figures, block_at, entity_at, classes_at, figures_of}
-
--- this text is put behind what is there, unless there is no memory for it
-abbrev pub Puts : {A E : Type 0} → Result A E → Vec ℕ Global → Vec ℕ Global → List ℕ → Type 0
-Puts result old new text = OnOk result (new.items ≡ old.items ++ text)
 
 -- how a job stands: the name of its end, if one stands
 abbrev pub status_word : Status → List ℕ

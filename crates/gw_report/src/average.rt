@@ -1,12 +1,13 @@
 //! Averages over the clock.
 
 ghost use Rattle.std.specs.Prelude.{◌≡◌, ◌++◌};
-ghost use Rattle.gw_report.specs.Report.{Puts, average_so_far, quotient_text};
+ghost use Rattle.gw_writing.specs.Text.{Puts};
+ghost use Rattle.gw_report.specs.Report.{average_so_far, quotient_text};
 ghost use Rattle.gw_entities.specs.Average.{average};
 
 use crate::figures::Figures;
-use crate::text::put_number;
 use gw_object::Memory;
+use gw_writing::put_number;
 
 /// The whole part of an average, and its thousandths.
 #[derive(Clone, Copy)]

@@ -1,11 +1,12 @@
 //! The lines of the blocks.
 
 ghost use Rattle.std.specs.Prelude.{◌<◌, ◌≤◌, length};
-ghost use Rattle.gw_report.specs.Report.{Puts, block_line, block_lines};
+ghost use Rattle.gw_writing.specs.Text.{Puts};
+ghost use Rattle.gw_report.specs.Report.{block_line, block_lines};
 
 use crate::figures::Figures;
-use crate::text::{put, put_number};
 use gw_object::{Block, Memory, block_word};
+use gw_writing::{put, put_number};
 
 fn put_block_line(
     out: &mut Vec<u8>,

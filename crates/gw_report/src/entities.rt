@@ -1,14 +1,16 @@
 //! The lines of the entities.
 
 ghost use Rattle.std.specs.Prelude.{◌++◌, codes};
-ghost use Rattle.gw_report.specs.Report.{Puts, contents_text, ownership_text, facility_line, storage_line, queue_line, lines_of, entity_lines};
+ghost use Rattle.gw_writing.specs.Text.{Puts};
+ghost use Rattle.gw_report.specs.Report.{contents_text, ownership_text, facility_line, storage_line, queue_line, lines_of, entity_lines};
 
 use crate::average::put_average;
 use crate::figures::Figures;
 use crate::tables::put_table_lines;
-use crate::text::{put, put_name, put_number};
+use crate::text::put_name;
 use gw_entities::{Contents, Facility};
 use gw_object::{Entity, Kind, Memory};
+use gw_writing::{put, put_number};
 use itoa::Integer;
 
 /// What is inside of a storage or a queue, in units.

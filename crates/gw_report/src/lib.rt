@@ -11,10 +11,11 @@ mod entries;
 mod figures;
 mod room;
 mod tables;
-pub mod text;
+mod text;
 
 ghost use Rattle.std.specs.Prelude.{◌≡◌, ◌≤◌, length, IfOk};
-ghost use Rattle.gw_report.specs.Report.{Puts, status_word as word_of_status, counts, end_line, report_text as text_of, report_of};
+ghost use Rattle.gw_writing.specs.Text.{Puts};
+ghost use Rattle.gw_report.specs.Report.{status_word as word_of_status, counts, end_line, report_text as text_of, report_of};
 
 use blocks::put_block_lines;
 use entities::put_entity_lines;
@@ -25,8 +26,8 @@ use room::bytes_about;
 pub use gw_object::block_word;
 use gw_object::{Memory, Parts};
 use gw_scan::{End, Sim, Status};
+use gw_writing::{put, put_number};
 use std::alloc::Global;
-use text::{put, put_number};
 
 /// How a job stands: the name of its end, if one stands.
 pub fn status_word(status: Status) -> &'static str

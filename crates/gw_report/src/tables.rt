@@ -1,10 +1,12 @@
 //! The lines of a table.
 
-ghost use Rattle.gw_report.specs.Report.{Puts, class_line, class_lines, table_lines};
+ghost use Rattle.gw_writing.specs.Text.{Puts};
+ghost use Rattle.gw_report.specs.Report.{class_line, class_lines, table_lines};
 
 use crate::figures::Figures;
-use crate::text::{put, put_name, put_number};
+use crate::text::put_name;
 use gw_object::Memory;
+use gw_writing::{put, put_number};
 
 fn put_class_line(out: &mut Vec<u8>, class: usize, values: u64) -> Result<(), Memory>
     ensures { Puts result out.old out.new (class_line class values) }

@@ -9,7 +9,7 @@ ghost use Rattle.gw_rows.specs.Reading.{IsAmount, ReadsAmount};
 
 use crate::parts::{behind_first, split_at_byte};
 use gw_object::Memory;
-use gw_report::text::{put, put_number};
+use gw_writing::{put, put_number};
 use itoa::Buffer;
 use std::alloc::Global;
 

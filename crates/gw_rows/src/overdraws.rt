@@ -11,7 +11,7 @@ use crate::amounts::{number_in, whole_in};
 use crate::parts::{behind_first, parts_of, split_at_byte};
 use gw_figures::Overdraw;
 use gw_object::Memory;
-use gw_report::text::{put, put_number};
+use gw_writing::{put, put_number};
 use std::alloc::Global;
 
 /// A stream, and how many numbers were drawn of how many.

@@ -8,8 +8,8 @@ use crate::columns::said_at;
 use crate::telling::{exceeds, put_amount};
 use gw_figures::Figure;
 use gw_object::Memory;
-use gw_report::text::put;
 use gw_statistics::Summary;
+use gw_writing::put;
 use std::alloc::Global;
 
 /// So many millionths are there at the end of a line that is told to grow, or more: 10.

@@ -7,7 +7,7 @@ ghost use Rattle.gw_study.specs.Streams as model;
 use gw_figures::{Overdraw, Run};
 use gw_notes::{draws, draws_at};
 use gw_object::{Block, Entity, Memory, Parts};
-use gw_report::text::{put, put_number};
+use gw_writing::{put, put_number};
 use std::alloc::Global;
 
 /// How many numbers lie between the seeds of one stream and of the next.

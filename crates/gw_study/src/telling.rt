@@ -11,9 +11,9 @@ use crate::text::{Thousandths, put_head, put_line, thousandths_of};
 use gw_figures::{Figure, Run};
 use gw_object::Memory;
 use gw_report::status_word;
-use gw_report::text::{put, put_number};
 use gw_scan::{End, Status};
 use gw_statistics::{Summary, runs_to_halve};
+use gw_writing::{put, put_number};
 use std::alloc::Global;
 
 /// What a study found: the figures of the model, and its runs in order.

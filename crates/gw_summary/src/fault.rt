@@ -1,7 +1,7 @@
 //! Why rows are refused.
 
 use gw_object::Memory;
-use itoa::Buffer;
+use gw_writing::{put, put_number};
 use std::alloc::Global;
 
 /// The code of the refusal of a row (docs/refusals.md).
@@ -62,18 +62,6 @@ fn reason_of(fault: RowFault) -> &'static str {
         RowFault::Missing(_) => " is missing",
         RowFault::Few(_, _) => " rows are there",
     }
-}
-
-/// A text behind others.
-fn put(out: &mut Vec<u8>, text: &str) -> Result<(), Memory> {
-    out.extend_from_slice(text.as_bytes())
-}
-
-/// A text, and a number behind it.
-fn put_number(out: &mut Vec<u8>, text: &str, number: u64) -> Result<(), Memory> {
-    let mut buffer = Buffer::new();
-    put(out, text)?;
-    put(out, buffer.format(number))
 }
 
 /// The code and its name, and the line.

@@ -1,11 +1,11 @@
 //! The columns of a trace.
 
 ghost use Rattle.std.specs.Prelude.{◌≤◌};
-ghost use Rattle.gw_report.specs.Report.{Puts};
+ghost use Rattle.gw_writing.specs.Text.{Puts};
 ghost use Rattle.gw_trace.specs.Columns.{column, number_or_dash};
 
 use gw_object::Memory;
-use gw_report::text::put;
+use gw_writing::put;
 use itoa::{Buffer, Integer};
 
 /// The blanks that a column may begin with.

@@ -2,7 +2,7 @@
 
 ghost use Rattle.std.specs.Prelude.{◌≡◌};
 ghost use Rattle.std.specs.Option.{option_copied};
-ghost use Rattle.gw_report.specs.Report.{Puts};
+ghost use Rattle.gw_writing.specs.Text.{Puts};
 ghost use Rattle.gw_trace.specs.Lines as model;
 ghost use Rattle.gw_trace.specs.Lines.{of_step};
 
@@ -11,9 +11,9 @@ use crate::happening::{Happening, is_delayed, let_in, what_happened, woken};
 use crate::sight::{Choice, Sight, next_block};
 use gw_machine::block_of;
 use gw_object::{Block, Memory, Parts};
-use gw_report::text::{put, put_number};
 use gw_report::{block_word, status_word};
 use gw_scan::{Sim, Status};
+use gw_writing::{put, put_number};
 
 /// A step: what was seen before it, and the state that it led to.
 #[derive(Clone, Copy)]

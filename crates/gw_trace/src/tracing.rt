@@ -1,7 +1,7 @@
 //! From a model text to the trace of its run.
 
 ghost use Rattle.std.specs.Prelude.{◌≡◌, OnOk, IfOk, None, Some};
-ghost use Rattle.gw_report.specs.Report.{Puts};
+ghost use Rattle.gw_writing.specs.Text.{Puts};
 ghost use Rattle.gw_step.specs.Job.{Alone, IsReached, Step, start_of};
 ghost use Rattle.gw_answers.specs.ModelJobs.{AnswersModel};
 ghost use Rattle.gw_answers.specs.Running.{IsOver};
@@ -12,8 +12,8 @@ use crate::sight::Sight;
 use gw_answers::status::ENDED;
 use gw_answers::{Answer, BUDGET, NoJob, Time, answer_refusal, is_over, spec_of_text};
 use gw_object::Memory;
-use gw_report::text::put;
 use gw_scan::{Sim, Spec};
+use gw_writing::put;
 use std::alloc::Global;
 
 /// What the columns are: the clock in clock units, the transaction's and the block's number, how many are then on the

@@ -1,4 +1,4 @@
-use Rattle.std.proofs.Common.{◌++◌, ℕ, Option, codes, append_assoc, ap, ◌∙◌}
+use Rattle.std.proofs.Common.{◌++◌, ℕ, Option, codes, ap, ◌∙◌}
 use Rattle.std.specs.Option.{unwrap_or}
 use Rattle.std.specs.Fmt.{decimal}
 use Rattle.std.proofs.lemmas.Result.{IfOk-equal}
@@ -9,5 +9,4 @@ returns c =
     let out = c.args.out.now.items in
     let words = codes ", handed over to " in
     IfOk-equal c.put_number.result _ _ _ c.put_number.ensures
-    (append_assoc out words (decimal c.unwrap_or.result)
-    ∙ ap (λ (n : ℕ). out ++ (words ++ decimal n)) (c.unwrap_or.ensures ∙ ap (λ (o : Option ℕ). unwrap_or o 0) c.owner.ensures))
+    (ap (λ (n : ℕ). out ++ (words ++ decimal n)) (c.unwrap_or.ensures ∙ ap (λ (o : Option ℕ). unwrap_or o 0) c.owner.ensures))
