@@ -5,7 +5,7 @@ use Rattle.std.specs.List.{All}
 use Rattle.gw_statistics.specs.Pairs.{differences}
 use Rattle.gw_statistics.specs.declared.summary.Summary.{Summary}
 use Rattle.gw_comparison.specs.Amounts.{amount, thousandths, wide_thousandths}
-use Rattle.gw_comparison.specs.Columns.{left, right}
+use Rattle.gw_writing.specs.Columns.{left, right}
 use Rattle.gw_comparison.specs.Points.{column_of, is_told, values_in, IsAccount}
 use Rattle.gw_comparison.specs.declared.accounts.Account.{Account}
 use Rattle.gw_comparison.specs.declared.point.Column.{Column}
@@ -21,10 +21,10 @@ verdict_of mean half_width = if differs mean half_width then codes "  differs\n"
 
 -- the half-width of a difference, if it is known, and what is said
 abbrev pub known_confidence : ℤ → ℕ → List ℕ
-known_confidence mean half_width = right (thousandths false (wide_thousandths (unsigned_abs mean) half_width)) ++ verdict_of mean half_width
+known_confidence mean half_width = right 16 (thousandths false (wide_thousandths (unsigned_abs mean) half_width)) ++ verdict_of mean half_width
 
 abbrev pub no_confidence : List ℕ
-no_confidence = right (codes "-") ++ codes "\n"
+no_confidence = right 16 (codes "-") ++ codes "\n"
 
 abbrev pub confidence : ℤ → Option ℕ → List ℕ
 confidence mean None = no_confidence
@@ -32,13 +32,13 @@ confidence mean (Some half_width) = if nat_le half_width (2 ^ 120) then known_co
 
 -- the numbers of a row
 unfoldable pub summary_text : Option Summary → List ℕ
-summary_text None = right (codes "-") ++ right (codes "-") ++ codes "\n"
-summary_text (Some summary) = right (amount summary.mean) ++ confidence summary.mean summary.half_width
+summary_text None = right 16 (codes "-") ++ right 16 (codes "-") ++ codes "\n"
+summary_text (Some summary) = right 16 (amount summary.mean) ++ confidence summary.mean summary.half_width
 
 -- the mean of what values say
 unfoldable pub mean_text : Option Summary → List ℕ
-mean_text None = right (codes "-")
-mean_text (Some summary) = right (amount summary.mean)
+mean_text None = right 16 (codes "-")
+mean_text (Some summary) = right 16 (amount summary.mean)
 
 -- the mean of a column
 pub record AddsMean (column : Column) (old new : List ℕ) : Type 0 where
@@ -56,7 +56,7 @@ pub record AddsDifference (first second : Column) (old new : List ℕ) : Type 0 
 pub record AddsRow (first second : Column) (old new : List ℕ) : Type 0 where
   pub behind_first : List ℕ
   pub behind_second : List ℕ
-  pub at_first : AddsMean first (old ++ left first.name.items) behind_first
+  pub at_first : AddsMean first (old ++ left 40 first.name.items) behind_first
   pub at_second : AddsMean second behind_first behind_second
   pub difference : AddsDifference first second behind_second new
 
@@ -85,7 +85,7 @@ unfoldable pub title : List ℕ → List ℕ → List ℕ
 title first second = (codes "DIFFERENCE " ++ second) ++ less first
 
 abbrev pub heads : List ℕ → List ℕ → List ℕ
-heads first second = left (codes "FIGURE") ++ right first ++ right second ++ right (codes "DIFFERENCE") ++ right (codes "HALF-WIDTH") ++ codes "\n"
+heads first second = left 40 (codes "FIGURE") ++ right 16 first ++ right 16 second ++ right 16 (codes "DIFFERENCE") ++ right 16 (codes "HALF-WIDTH") ++ codes "\n"
 
 -- what is told of a point and the first
 abbrev pub AddsDifferences : Bool → Point → Point → List ℕ → List ℕ → Type 0

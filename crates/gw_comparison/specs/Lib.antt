@@ -2,7 +2,6 @@
 pub mod Points
 -- HOW IT IS TOLD
 pub mod Amounts
-pub mod Columns
 pub mod Differences
 pub mod Sheets
 -- PICTURES

@@ -7,11 +7,17 @@ ghost use Rattle.gw_comparison.specs.Points.{IsAccount};
 
 use crate::accounts::{Account, account_in, account_of, column_of, is_told};
 use crate::amounts::{put_amount, put_thousandths, wide_thousandths};
-use crate::columns::{put_left, put_right};
 use crate::point::{Column, Point};
 use gw_object::Memory;
 use gw_statistics::{Summary, differences};
+use gw_writing::{put_left, put_right};
 use std::alloc::Global;
+
+/// How wide a name is.
+const NAME: usize = 40;
+
+/// How wide a number is.
+const NUMBER: usize = 16;
 
 /// What the differences of two columns say: of each run that has a value in both, the second less the first.
 pub(crate) fn account_between(
@@ -59,11 +65,11 @@ fn put_confidence(
         Some(half_width) if half_width <= 1 << 120 => {
             let mut text = Vec::new(alloc);
             put_thousandths(&mut text, false, wide_thousandths(mean, half_width))?;
-            put_right(out, &text)?;
+            put_right(out, NUMBER, &text)?;
             out.extend_from_slice(verdict_of(mean, half_width).as_bytes())
         }
         _ => {
-            put_right(out, b"-")?;
+            put_right(out, NUMBER, b"-")?;
             out.extend_from_slice(b"\n")
         }
     }
@@ -78,12 +84,12 @@ fn put_summary(alloc: Global, out: &mut Vec<u8>, summary: &Option<Summary>) -> R
         Some(summary) => {
             let mut text = Vec::new(alloc);
             put_amount(&mut text, &summary.mean)?;
-            put_right(out, &text)?;
+            put_right(out, NUMBER, &text)?;
             put_confidence(alloc, out, &summary.mean, summary.half_width)
         }
         None => {
-            put_right(out, b"-")?;
-            put_right(out, b"-")?;
+            put_right(out, NUMBER, b"-")?;
+            put_right(out, NUMBER, b"-")?;
             out.extend_from_slice(b"\n")
         }
     }
@@ -98,9 +104,9 @@ fn put_mean(alloc: Global, out: &mut Vec<u8>, summary: &Option<Summary>) -> Resu
         Some(summary) => {
             let mut text = Vec::new(alloc);
             put_amount(&mut text, &summary.mean)?;
-            put_right(out, &text)
+            put_right(out, NUMBER, &text)
         }
-        None => put_right(out, b"-"),
+        None => put_right(out, NUMBER, b"-"),
     }
 }
 
@@ -129,7 +135,7 @@ fn put_difference(
 fn put_row(alloc: Global, out: &mut Vec<u8>, first: &Column, second: &Column) -> Result<(), Memory>
     ensures { OnOk result (model.AddsRow first.now second.now out.old.items out.new.items) }
 {
-    put_left(out, &first.name)?;
+    put_left(out, NAME, &first.name)?;
     put_mean_of(alloc, out, first)?;
     put_mean_of(alloc, out, second)?;
     put_difference(alloc, out, first, second)
@@ -195,11 +201,11 @@ fn put_title(out: &mut Vec<u8>, first: &[u8], second: &[u8]) -> Result<(), Memor
 fn put_heads(out: &mut Vec<u8>, first: &[u8], second: &[u8]) -> Result<(), Memory>
     ensures { OnOk result (out.new.items ≡ out.old.items ++ model.heads first.now second.now) }
 {
-    put_left(out, b"FIGURE")?;
-    put_right(out, first)?;
-    put_right(out, second)?;
-    put_right(out, b"DIFFERENCE")?;
-    put_right(out, b"HALF-WIDTH")?;
+    put_left(out, NAME, b"FIGURE")?;
+    put_right(out, NUMBER, first)?;
+    put_right(out, NUMBER, second)?;
+    put_right(out, NUMBER, b"DIFFERENCE")?;
+    put_right(out, NUMBER, b"HALF-WIDTH")?;
     out.extend_from_slice(b"\n")
 }
 

@@ -8,7 +8,6 @@
 mod accounts;
 mod amounts;
 mod axis;
-mod columns;
 mod differences;
 mod frame;
 mod marks;

@@ -11,7 +11,7 @@ use crate::fault::{NoPoint, ParameterFault, no_point};
 use crate::operands::{cut_of, operand_of};
 use gw_object::Memory;
 use gw_text_tokens::lines::{line_at, lines_of};
-use gw_writing::{put, put_number};
+use gw_writing::put_number;
 use std::alloc::Global;
 
 /// Whether a line gives a name a number.
@@ -47,7 +47,7 @@ fn put_line(out: &mut Vec<u8>, line: &[u8]) -> Result<(), Memory>
     ensures { OnOk result (out.new.items ≡ out.old.items ++ (line.now ++ 10 ∷ [])) }
 {
     out.extend_from_slice(line)?;
-    put(out, "\n")
+    out.extend_from_slice(b"\n")
 }
 
 /// What stands before a number, the number, and what follows it.

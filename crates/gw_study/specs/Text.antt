@@ -1,16 +1,9 @@
 -- The lines of a study.
-use Rattle.std.specs.Prelude.{ℕ, suc, ◌+◌, ◌-◌, ◌^◌, ◌/◌, ◌%◌, min, nat_le, nat_lt, List, [], ◌∷◌, ◌++◌, length, replicate, codes, ℤ, pos, negsuc}
+use Rattle.std.specs.Prelude.{ℕ, suc, ◌+◌, ◌-◌, ◌^◌, ◌/◌, ◌%◌, min, nat_le, nat_lt, List, [], ◌++◌, codes, ℤ, pos, negsuc}
 use Rattle.std.specs.Prelude.{neg_ℤ, unsigned_abs, Option, None, Some, if◌then◌else◌}
 use Rattle.std.specs.Fmt.{decimal}
 use Rattle.gw_statistics.specs.declared.summary.Summary.{Summary}
-
--- blanks behind a text, up to a width
-unfoldable pub left : ℕ → List ℕ → List ℕ
-left width text = text ++ replicate (width - length text) 32
-
--- a blank, and blanks before a text, up to a width
-unfoldable pub right : ℕ → List ℕ → List ℕ
-right width text = 32 ∷ (replicate (width - length text) 32 ++ text)
+use Rattle.gw_writing.specs.Columns.{left, right}
 
 -- a number of thousandths with three digits behind its point
 abbrev pub amount_text : ℕ → List ℕ

@@ -1,10 +1,12 @@
 //! The lines of a study.
 
-ghost use Rattle.std.specs.Prelude.{◌≡◌, ◌≤◌, ◌++◌, ◌^◌, OnOk, Some, replicate};
+ghost use Rattle.std.specs.Prelude.{◌≡◌, ◌≤◌, ◌++◌, ◌^◌, OnOk, Some};
 ghost use Rattle.gw_study.specs.Text as model;
+ghost use Rattle.gw_writing.specs.Columns.{right};
 
 use gw_object::Memory;
 use gw_statistics::Summary;
+use gw_writing::{put_left, put_right};
 use std::alloc::Global;
 use std::fmt;
 
@@ -32,35 +34,6 @@ impl fmt::Display for Thousandths {
     }
 }
 
-/// Appends so many blanks.
-fn put_blanks(out: &mut Vec<u8>, blanks: usize) -> Result<(), Memory>
-    ensures { OnOk result (out.new.items ≡ out.old.items ++ replicate blanks 32) }
-{
-    for _ in 0..blanks {
-        out.push(b' ')?;
-    }
-    Ok(())
-}
-
-/// Appends a text with blanks behind it.
-#[tactic(auto, unfolding(crate::specs::Text::left))]
-fn put_left(out: &mut Vec<u8>, width: usize, text: &[u8]) -> Result<(), Memory>
-    ensures { OnOk result (out.new.items ≡ out.old.items ++ model.left width text.now) }
-{
-    out.extend_from_slice(text)?;
-    put_blanks(out, width.saturating_sub(text.len()))
-}
-
-/// Appends a blank, and a text with blanks before it.
-#[tactic(auto, unfolding(crate::specs::Text::right))]
-fn put_right(out: &mut Vec<u8>, width: usize, text: &[u8]) -> Result<(), Memory>
-    ensures { OnOk result (out.new.items ≡ out.old.items ++ model.right width text.now) }
-{
-    out.push(b' ')?;
-    put_blanks(out, width.saturating_sub(text.len()))?;
-    out.extend_from_slice(text)
-}
-
 /// Millionths in thousandths, rounded to the nearest; what lies in the middle goes away from 0.
 pub fn thousandths_of(value: i128) -> i128
     ensures { result ≡ model.thousandths_of value }
@@ -81,7 +54,7 @@ fn distance(value: i128) -> u128
 /// Appends thousandths.
 fn put_thousandths(alloc: Global, out: &mut Vec<u8>, number: i128) -> Result<(), Memory>
     ensures { OnOk result
-        (out.new.items ≡ out.old.items ++ model.right 16 (model.thousandths_text number)) }
+        (out.new.items ≡ out.old.items ++ right 16 (model.thousandths_text number)) }
 {
     let text = format!(in alloc; "{}", Thousandths(number))?;
     put_right(out, NUMBER, text.as_bytes())

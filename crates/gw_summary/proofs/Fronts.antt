@@ -4,7 +4,7 @@ use Rattle.std.specs.Prelude.{MatchBool}
 use Rattle.std.proofs.lemmas.List.{append_assoc}
 use Rattle.gw_comparison.specs.Differences.{AddsMean, AddsDifference, AddsRow, AddsRowOf, AddsRows, AddsDifferences, title, heads}
 use Rattle.gw_comparison.specs.Points.{column_of, is_told}
-use Rattle.gw_comparison.specs.Columns.{left}
+use Rattle.gw_writing.specs.Columns.{left}
 use Rattle.gw_comparison.specs.Sheets.{AddsEach}
 use Rattle.gw_comparison.specs.declared.point.Column.{Column}
 use Rattle.gw_comparison.specs.declared.point.Point.{Point}
@@ -25,8 +25,8 @@ module _ (front : List ℕ) where
   row first second old new h = record {
     behind_first = front ++ h.behind_first;
     behind_second = front ++ h.behind_second;
-    at_first = subst (λ bs. AddsMean first bs (front ++ h.behind_first)) (sym (append_assoc front old (left first.name.items)))
-        (mean first (old ++ left first.name.items) h.behind_first h.at_first);
+    at_first = subst (λ bs. AddsMean first bs (front ++ h.behind_first)) (sym (append_assoc front old (left 40 first.name.items)))
+        (mean first (old ++ left 40 first.name.items) h.behind_first h.at_first);
     at_second = mean second h.behind_first h.behind_second h.at_second;
     difference = difference first second h.behind_second new h.difference;
   }

@@ -1,0 +1,10 @@
+-- Columns of a table.
+use Rattle.std.specs.Prelude.{ℕ, ◌-◌, List, ◌∷◌, ◌++◌, length, replicate}
+
+-- a text with blanks behind it, so wide or as wide as it is
+unfoldable pub left : ℕ → List ℕ → List ℕ
+left width text = text ++ replicate (width - length text) 32
+
+-- a blank, and a text with blanks before it, so wide or as wide as it is
+unfoldable pub right : ℕ → List ℕ → List ℕ
+right width text = 32 ∷ (replicate (width - length text) 32 ++ text)
