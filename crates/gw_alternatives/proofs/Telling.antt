@@ -12,12 +12,12 @@ use Rattle.gw_study.specs.Table.{Adds}
 use Rattle.gw_study.specs.declared.request.StudyRequest.{StudyRequest}
 use Rattle.gw_study.specs.declared.telling.Results.{Results}
 use Rattle.gw_alternatives.specs.declared.study_point.StudyPoint.{StudyPoint}
-use Rattle.gw_alternatives.specs.declared.alternatives.NoAlternative.{NoAlternative}
+use Rattle.gw_parameters.specs.declared.fault.NoAnswer.{NoAnswer}
 use Rattle.gw_alternatives.specs.declared.form.Form.{Form}
 use Rattle.gw_alternatives.specs.Told.{AddsTableIn, head_line, IsAnswerAbout, IsPointBy, IsTableOf, IsToldOr, TellsAlternative}
 
 pub told_or : {E : Type 0} (Are : List StudyPoint → Type 0) (form : Form) (request : StudyRequest)
-    (found : Result (Vec StudyPoint Global) NoAlternative) (a : Result Answer E)
+    (found : Result (Vec StudyPoint Global) NoAnswer) (a : Result Answer E)
     → IfOk found (λ all. Are all.items)
     → MatchResult found (λ all. IfOk a (λ a. IsAnswerAbout form request all.items a.text.items a.status)) (λ none. IfOk a (λ a. a.status ≡ refusal_status))
     → IfOk a (λ a. IsToldOr Are form request a.text.items a.status)

@@ -19,7 +19,7 @@ use Rattle.gw_study.specs.Study.{AreResultsOf, IsTextOfResults}
 use Rattle.gw_study.specs.declared.request.StudyRequest.{StudyRequest}
 use Rattle.gw_study.specs.declared.telling.Results.{Results}
 use Rattle.gw_alternatives.specs.declared.study_point.StudyPoint.{StudyPoint}
-use Rattle.gw_alternatives.specs.declared.alternatives.NoAlternative.{NoAlternative}
+use Rattle.gw_parameters.specs.declared.fault.NoAnswer.{NoAnswer}
 use Rattle.gw_alternatives.specs.declared.form.Form.{Form}
 use Rattle.gw_alternatives.specs.declared.form.Form.TheVariants.{Table, Csv, Picture}
 use Rattle.gw_alternatives.specs.Alternatives.{ArePoints, AreModels}
@@ -140,7 +140,7 @@ IsAnswerAbout form request alternatives text status =
     ((status ≡ end_status) × AreTold form request alternatives text) ⊎ (status ≡ refusal_status)
 
 -- what answers about alternatives, or why there are none
-abbrev pub AnswersAbout : {E : Type 0} → Result (Vec StudyPoint Global) NoAlternative → Form → StudyRequest → Result Answer E → Type 0
+abbrev pub AnswersAbout : {E : Type 0} → Result (Vec StudyPoint Global) NoAnswer → Form → StudyRequest → Result Answer E → Type 0
 AnswersAbout found form request result =
     MatchResult found (λ all. AnswersAs result (IsAnswerAbout form request all.items))
     (λ none. IfOk result (λ a. a.status ≡ refusal_status))

@@ -8,19 +8,10 @@ use crate::study_point::StudyPoint;
 use gw_answers::{NoJob, Refusal, answer_refusal};
 use gw_figures::figures;
 use gw_object::Memory;
-use gw_parameters::{NoPoint, ParameterFault, Points, points_of, refusal_of as parameter_refusal};
+use gw_parameters::{NoAnswer, ParameterFault, Points, points_of, refusal_of as parameter_refusal};
 use gw_scan::Spec;
 use gw_study::job_of_text;
 use std::alloc::Global;
-
-/// Why there are no alternatives.
-#[derive(Drop)]
-pub enum NoAlternative {
-    /// A parameter or a text is refused: the text of the refusal.
-    Refused(Vec<u8>),
-    /// Memory ran out.
-    Memory,
-}
 
 /// The line of a refusal, and of which alternative it is.
 fn line_of(alloc: Global, refusal: Refusal, name: &[u8]) -> Result<Vec<u8>, Memory> {
@@ -34,21 +25,13 @@ fn line_of(alloc: Global, refusal: Refusal, name: &[u8]) -> Result<Vec<u8>, Memo
 }
 
 /// The refusal of a text, as it is printed.
-fn refusal_of(alloc: Global, none: NoJob, name: &[u8]) -> NoAlternative {
+fn refusal_of(alloc: Global, none: NoJob, name: &[u8]) -> NoAnswer {
     match none {
         NoJob::Refused(refusal) => match line_of(alloc, refusal, name) {
-            Ok(text) => NoAlternative::Refused(text),
-            Err(Memory) => NoAlternative::Memory,
+            Ok(text) => NoAnswer::Refused(text),
+            Err(Memory) => NoAnswer::Memory,
         },
-        NoJob::OutOfMemory => NoAlternative::Memory,
-    }
-}
-
-/// The same of a point.
-fn of_point(none: NoPoint) -> NoAlternative {
-    match none {
-        NoPoint::Refused(text) => NoAlternative::Refused(text),
-        NoPoint::Memory => NoAlternative::Memory,
+        NoJob::OutOfMemory => NoAnswer::Memory,
     }
 }
 
@@ -58,7 +41,7 @@ pub(crate) fn alternative_of(
     name: Vec<u8>,
     text: &[u8],
     count: u64,
-) -> Result<StudyPoint, NoAlternative>
+) -> Result<StudyPoint, NoAnswer>
     ensures { IfOk result (IsAlternative name.items text.now count) }
 {
     match job_of_text(alloc, text, count) {
@@ -88,26 +71,26 @@ fn point_of(
     points: &Points,
     point: usize,
     count: u64,
-) -> Result<StudyPoint, NoAlternative>
+) -> Result<StudyPoint, NoAnswer>
     requires { point < count_of points.now }
     ensures { IfOk result (IsPointAt text.now points.now count point) }
 {
     match points.text_at(alloc, text, point) {
         Ok(made) => match name_of(alloc, points, point) {
             Ok(name) => alternative_of(alloc, name, &made, count),
-            Err(Memory) => Err(NoAlternative::Memory),
+            Err(Memory) => Err(NoAnswer::Memory),
         },
-        Err(none) => Err(of_point(none)),
+        Err(none) => Err(none),
     }
 }
 
 /// Alternatives, with one more.
-fn add(alternatives: &mut Vec<StudyPoint>, alternative: StudyPoint) -> Result<(), NoAlternative>
+fn add(alternatives: &mut Vec<StudyPoint>, alternative: StudyPoint) -> Result<(), NoAnswer>
     ensures { OnOk result (alternatives.new.items ≡ alternatives.old.items ++ alternative ∷ []) }
 {
     match alternatives.push(alternative) {
         Ok(()) => Ok(()),
-        Err(_) => Err(NoAlternative::Memory),
+        Err(_) => Err(NoAnswer::Memory),
     }
 }
 
@@ -117,7 +100,7 @@ fn points_in(
     text: &[u8],
     points: &Points,
     count: u64,
-) -> Result<Vec<StudyPoint>, NoAlternative>
+) -> Result<Vec<StudyPoint>, NoAnswer>
     requires { count_of points.now ≤ 64 }
     ensures { IfOk result (λ all. ArePointsOf text.now points.now count all.items) }
 {
@@ -135,25 +118,25 @@ pub fn points_by_words(
     text: &[u8],
     words: &[&[u8]],
     count: u64,
-) -> Result<Vec<StudyPoint>, NoAlternative>
+) -> Result<Vec<StudyPoint>, NoAnswer>
     ensures points { IfOk result
         (λ all. ArePoints text.now (map (λ w. w.now) words.now) count all.items) }
     ensures few { IfOk result (λ all. length all.items ≤ 64) }
 {
     match points_of(alloc, words) {
         Ok(points) => points_in(alloc, text, &points, count),
-        Err(none) => Err(of_point(none)),
+        Err(none) => Err(none),
     }
 }
 
 /// A copy of a name.
-fn copy_of(alloc: Global, name: &[u8]) -> Result<Vec<u8>, NoAlternative>
+fn copy_of(alloc: Global, name: &[u8]) -> Result<Vec<u8>, NoAnswer>
     ensures { IfOk result (λ copy. copy.items ≡ name.now) }
 {
     let mut copy = Vec::new(alloc);
     match copy.extend_from_slice(name) {
         Ok(()) => Ok(copy),
-        Err(_) => Err(NoAlternative::Memory),
+        Err(_) => Err(NoAnswer::Memory),
     }
 }
 
@@ -163,7 +146,7 @@ pub(crate) fn models_of(
     first: &[u8],
     second: &[u8],
     count: u64,
-) -> Result<Vec<StudyPoint>, NoAlternative>
+) -> Result<Vec<StudyPoint>, NoAnswer>
     ensures { IfOk result (λ all. AreModels first.now second.now count all.items) }
 {
     let mut alternatives = Vec::new(alloc);

@@ -6,13 +6,14 @@ ghost use Rattle.gw_answers.specs.Status.{refusal_status};
 ghost use Rattle.gw_alternatives.specs.Told.{AnswersAbout, IsAnswerAbout, IsComparison, IsStudyOfPoints};
 ghost use Rattle.gw_study.specs.Requests.{MayBeStudied};
 
-use crate::alternatives::{NoAlternative, models_of, points_by_words, refusal_of_figure};
+use crate::alternatives::{models_of, points_by_words, refusal_of_figure};
 use crate::form::Form;
 use crate::study_point::StudyPoint;
 use crate::told::told;
 use gw_answers::Answer;
 use gw_answers::status::{ENDED, REFUSED};
 use gw_object::Memory;
+use gw_parameters::NoAnswer;
 use gw_study::StudyRequest;
 use std::alloc::Global;
 use std::io::Eprint;
@@ -64,7 +65,7 @@ fn answer_in<W: Threads + Sync + Eprint>(
 fn answer<W: Threads + Sync + Eprint>(
     rt: &W,
     alloc: Global,
-    alternatives: Result<Vec<StudyPoint>, NoAlternative>,
+    alternatives: Result<Vec<StudyPoint>, NoAnswer>,
     form: Form<'_>,
     request: &StudyRequest,
 ) -> Result<Answer, Memory>
@@ -73,8 +74,8 @@ fn answer<W: Threads + Sync + Eprint>(
 {
     match alternatives {
         Ok(alternatives) => answer_in(rt, alloc, &alternatives, form, request),
-        Err(NoAlternative::Refused(text)) => Ok(refusal(text)),
-        Err(NoAlternative::Memory) => Err(Memory),
+        Err(NoAnswer::Refused(text)) => Ok(refusal(text)),
+        Err(NoAnswer::Memory) => Err(Memory),
     }
 }
 

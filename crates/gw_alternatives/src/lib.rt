@@ -10,7 +10,7 @@ mod form;
 mod study_point;
 mod told;
 
-pub use alternatives::{NoAlternative, points_by_words};
+pub use alternatives::points_by_words;
 pub use answering::{compare, study_points};
 pub use form::Form;
 pub use study_point::StudyPoint;

@@ -8,8 +8,8 @@ use Rattle.gw_experiment.specs.declared.experiment.Experiment as experiments
 use Rattle.gw_experiment.specs.declared.draft.Refused as refusals
 use Rattle.gw_experiment.specs.declared.draft.Refused.TheVariants as refused
 use Rattle.gw_experiment.specs.declared.fault.ExperimentFault.{ExperimentFault}
-use Rattle.gw_experiment.specs.declared.fault.NoExperiment.{NoExperiment}
-use Rattle.gw_experiment.specs.declared.fault.NoExperiment.TheVariants.{Refused, Memory}
+use Rattle.gw_parameters.specs.declared.fault.NoAnswer.{NoAnswer}
+use Rattle.gw_parameters.specs.declared.fault.NoAnswer.TheVariants.{Refused, Memory}
 
 -- the bytes of words, or of lines
 abbrev pub lent_texts : List (Bor (List ℕ)) → List (List ℕ)
@@ -41,16 +41,16 @@ abbrev pub Takes : Result Draft ExperimentFault → drafts.Draft → Result (Uni
 Takes asked draft result = MatchResult result (λ u. asked ≡ Ok (view_of_draft draft)) (IsFault asked)
 
 -- this is the refusal, or memory ran out
-abbrev pub IsRefusal : Result Experiment (List ℕ) → NoExperiment → Type 0
+abbrev pub IsRefusal : Result Experiment (List ℕ) → NoAnswer → Type 0
 IsRefusal asked (Refused text) = asked ≡ Err text.items
 IsRefusal asked Memory = Unit {0}
 
 -- the draft is that of all lines, or the refusal is told
-abbrev pub IsDraftOf : List (List ℕ) → Result drafts.Draft NoExperiment → Type 0
+abbrev pub IsDraftOf : List (List ℕ) → Result drafts.Draft NoAnswer → Type 0
 IsDraftOf text_lines result =
     let asked = experiment_of_lines text_lines in
     MatchResult result (λ d. asked ≡ experiment_of (length text_lines + 1) (view_of_draft d)) (IsRefusal asked)
 
 -- what is answered is the experiment that is asked for, or its refusal
-abbrev pub Answers : Result Experiment (List ℕ) → Result experiments.Experiment NoExperiment → Type 0
+abbrev pub Answers : Result Experiment (List ℕ) → Result experiments.Experiment NoAnswer → Type 0
 Answers asked result = MatchResult result (λ e. asked ≡ Ok (view e)) (IsRefusal asked)

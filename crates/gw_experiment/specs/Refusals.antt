@@ -3,8 +3,8 @@ use Rattle.std.specs.Prelude.{◌≡◌, ℕ, List, ◌++◌, codes}
 use Rattle.std.specs.Fmt.{decimal}
 use Rattle.gw_experiment.specs.declared.fault.ExperimentFault.{ExperimentFault}
 use Rattle.gw_experiment.specs.declared.fault.ExperimentFault.TheVariants as fault
-use Rattle.gw_experiment.specs.declared.fault.NoExperiment.{NoExperiment}
-use Rattle.gw_experiment.specs.declared.fault.NoExperiment.TheVariants.{Refused, Memory}
+use Rattle.gw_parameters.specs.declared.fault.NoAnswer.{NoAnswer}
+use Rattle.gw_parameters.specs.declared.fault.NoAnswer.TheVariants.{Refused, Memory}
 
 -- why, in words
 abbrev pub reason_of : ExperimentFault → List ℕ
@@ -29,6 +29,6 @@ abbrev pub refusal_text : ℕ → ExperimentFault → List ℕ
 refusal_text line fault = head line ++ reason fault
 
 -- there is no experiment for this reason, or for want of memory
-abbrev pub Tells : ℕ → ExperimentFault → NoExperiment → Type 0
+abbrev pub Tells : ℕ → ExperimentFault → NoAnswer → Type 0
 Tells line fault (Refused text) = text.items ≡ refusal_text line fault
 Tells line fault Memory = Unit {0}

@@ -5,8 +5,9 @@ ghost use Rattle.gw_experiment.specs.Answers.{Answers, IsDraftOf, lent_texts, vi
 ghost use Rattle.gw_experiment.specs.Experiments as model;
 
 use crate::draft::{Draft, Refused};
-use crate::fault::{ExperimentFault, NoExperiment, no_experiment};
+use crate::fault::{ExperimentFault, no_experiment};
 use crate::steps::add_line;
+use gw_parameters::NoAnswer;
 use gw_text_tokens::lines::lines_of;
 use std::alloc::Global;
 
@@ -25,7 +26,7 @@ pub struct Experiment {
 
 /// What lines ask for.
 #[tactic(auto, unfolding(crate::specs::Experiments::experiment_from))]
-fn draft_of(alloc: Global, lines: &[&[u8]]) -> Result<Draft, NoExperiment>
+fn draft_of(alloc: Global, lines: &[&[u8]]) -> Result<Draft, NoAnswer>
     ensures { IsDraftOf (lent_texts lines.now) result }
 {
     let mut draft = Draft {
@@ -38,14 +39,14 @@ fn draft_of(alloc: Global, lines: &[&[u8]]) -> Result<Draft, NoExperiment>
         match add_line(alloc, &mut draft, lines[i]) {
             Ok(()) => {}
             Err(Refused::Fault(fault)) => return Err(no_experiment(alloc, i + 1, fault)),
-            Err(Refused::Memory) => return Err(NoExperiment::Memory),
+            Err(Refused::Memory) => return Err(NoAnswer::Memory),
         }
     }
     Ok(draft)
 }
 
 /// What a draft asks for, if it says how many runs there are.
-fn experiment_of(alloc: Global, draft: Draft, lines: usize) -> Result<Experiment, NoExperiment>
+fn experiment_of(alloc: Global, draft: Draft, lines: usize) -> Result<Experiment, NoAnswer>
     requires { lines < 2 ^ 64 - 1 }
     ensures asked { Answers (model.experiment_of (lines + 1) (view_of_draft draft)) result }
     ensures runs { IfOk result (λ e. (1 ≤ e.runs) × (e.runs ≤ 512)) }
@@ -75,7 +76,7 @@ fn experiment_of(alloc: Global, draft: Draft, lines: usize) -> Result<Experiment
 /// `*! count N` and `*! from W`, as a study has them.
 ///
 /// Another line that begins so is refused (85 Experiment), and a text without `*! runs`, at the line behind its last.
-pub fn experiment_in(alloc: Global, text: &[u8]) -> Result<Experiment, NoExperiment>
+pub fn experiment_in(alloc: Global, text: &[u8]) -> Result<Experiment, NoAnswer>
     ensures asked { Answers (model.experiment_in text.now) result }
     ensures runs { IfOk result (λ e. (1 ≤ e.runs) × (e.runs ≤ 512)) }
 {
@@ -84,6 +85,6 @@ pub fn experiment_in(alloc: Global, text: &[u8]) -> Result<Experiment, NoExperim
             let draft = draft_of(alloc, &lines)?;
             experiment_of(alloc, draft, lines.len())
         }
-        Err(_) => Err(NoExperiment::Memory),
+        Err(_) => Err(NoAnswer::Memory),
     }
 }

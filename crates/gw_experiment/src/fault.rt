@@ -4,6 +4,7 @@ ghost use Rattle.std.specs.Prelude.{◌≡◌, ◌++◌, OnOk, IfOk};
 ghost use Rattle.gw_experiment.specs.Refusals as model;
 
 use gw_object::Memory;
+use gw_parameters::NoAnswer;
 use gw_writing::{put, put_number};
 use std::alloc::Global;
 
@@ -27,15 +28,6 @@ pub enum ExperimentFault {
     Twice,
     /// No line says how many runs there are.
     None,
-}
-
-/// Why there is no experiment.
-#[derive(Drop)]
-pub enum NoExperiment {
-    /// A line is refused; this is the refusal as it is printed.
-    Refused(Vec<u8>),
-    /// Memory ran out.
-    Memory,
 }
 
 /// Why a line is refused, in words.
@@ -83,11 +75,11 @@ pub fn refusal_of(alloc: Global, line: usize, fault: ExperimentFault) -> Result<
 }
 
 /// The same, as the reason why there is no experiment; or want of memory.
-pub(crate) fn no_experiment(alloc: Global, line: usize, fault: ExperimentFault) -> NoExperiment
+pub(crate) fn no_experiment(alloc: Global, line: usize, fault: ExperimentFault) -> NoAnswer
     ensures { model.Tells line fault result }
 {
     match refusal_of(alloc, line, fault) {
-        Ok(text) => NoExperiment::Refused(text),
-        Err(Memory) => NoExperiment::Memory,
+        Ok(text) => NoAnswer::Refused(text),
+        Err(Memory) => NoAnswer::Memory,
     }
 }

@@ -7,7 +7,7 @@ ghost use Rattle.gw_experiment.specs.Answers.{lent_texts};
 ghost use Rattle.gw_experiment.specs.Experiments as model;
 
 use gw_object::Memory;
-use gw_parameters::{NoPoint, parameter_in};
+use gw_parameters::{NoAnswer, parameter_in};
 use std::alloc::Global;
 
 /// Numbers, each behind a comma.
@@ -82,7 +82,7 @@ pub(crate) fn has_rising_numbers(alloc: Global, word: &[u8]) -> Result<bool, Mem
 {
     match parameter_in(alloc, word) {
         Ok(parameter) => Ok(are_rising(&parameter.values)),
-        Err(NoPoint::Refused(_)) => Ok(false),
-        Err(NoPoint::Memory) => Err(Memory),
+        Err(NoAnswer::Refused(_)) => Ok(false),
+        Err(NoAnswer::Memory) => Err(Memory),
     }
 }

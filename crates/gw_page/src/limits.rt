@@ -12,12 +12,13 @@ ghost use Rattle.gw_study.specs.Runs.{run_job};
 
 use crate::counting::{END, is_short};
 use crate::inquiry::Inquiry;
-use gw_alternatives::{NoAlternative, StudyPoint, points_by_words};
+use gw_alternatives::{StudyPoint, points_by_words};
 use gw_answers::status::ENDED;
 use gw_answers::{NoJob, Request, Time, answer_to, spec_of, spec_of_text};
 use gw_command_line::{MOST_RUNS, Options, Question, Runs, Study};
 use gw_figures::figures;
 use gw_object::Memory;
+use gw_parameters::NoAnswer;
 use gw_planner::words_of;
 use gw_scan::Spec;
 use gw_study::seeds_of;
@@ -182,8 +183,8 @@ fn allowance_of_points(
     let words = words_of(alloc, options)?;
     match points_by_words(alloc, text, &words, count) {
         Ok(points) => Ok(allowance_if(are_within(alloc, &points, number, runs)?)),
-        Err(NoAlternative::Refused(_)) => Ok(Allowance::Uncounted),
-        Err(NoAlternative::Memory) => Err(Memory),
+        Err(NoAnswer::Refused(_)) => Ok(Allowance::Uncounted),
+        Err(NoAnswer::Memory) => Err(Memory),
     }
 }
 

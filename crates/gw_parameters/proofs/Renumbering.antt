@@ -2,11 +2,11 @@
 use Rattle.std.proofs.Common.{◌≡◌, ℕ, ℤ, List, [], ◌∷◌, Some, Result, Ok, Err, MatchResult, get_or}
 use Rattle.gw_parameters.specs.Operands.{cut_of, with_number_between}
 use Rattle.gw_parameters.specs.Texts.{lines_of, text_from, IsRenumbered, IsRefused}
-use Rattle.gw_parameters.specs.declared.fault.NoPoint.{NoPoint}
-use Rattle.gw_parameters.specs.declared.fault.NoPoint.TheVariants.{Memory}
+use Rattle.gw_parameters.specs.declared.fault.NoAnswer.{NoAnswer}
+use Rattle.gw_parameters.specs.declared.fault.NoAnswer.TheVariants.{Memory}
 
 pub renumbered : {V : Type 0} (items : V → List ℕ) (lines : List (List ℕ)) (name : List ℕ) (value : ℤ) (number : ℕ) (cut : List ℕ × List ℕ)
-    (r : Result V NoPoint)
+    (r : Result V NoAnswer)
     → lines_of name 0 lines ≡ number ∷ [] → cut_of name (get_or lines number []) ≡ Some cut
     → MatchResult r (λ text. items text ≡ text_from 0 number (with_number_between value cut) lines) (λ none. none ≡ Memory)
     → MatchResult r (λ text. IsRenumbered lines name value (items text)) (IsRefused lines name)

@@ -5,8 +5,8 @@ use Rattle.std.specs.List.{slice_split, position_or_len}
 use Rattle.gw_num.specs.Numerals.{is_number}
 use Rattle.gw_text_tokens.specs.Numbers.{spelled_number}
 use Rattle.gw_parameters.specs.Refusals.{refusal_text}
-use Rattle.gw_parameters.specs.declared.fault.NoPoint.{NoPoint}
-use Rattle.gw_parameters.specs.declared.fault.NoPoint.TheVariants.{Refused, Memory}
+use Rattle.gw_parameters.specs.declared.fault.NoAnswer.{NoAnswer}
+use Rattle.gw_parameters.specs.declared.fault.NoAnswer.TheVariants.{Refused, Memory}
 use Rattle.gw_parameters.specs.declared.fault.ParameterFault.TheVariants.{Form}
 use Rattle.gw_parameters.specs.declared.parameters.Parameter.{Parameter}
 
@@ -66,11 +66,11 @@ unfoldable pub numbers_in : List ℕ → Option (List ℤ)
 numbers_in word = option_and_then values_in (behind_equals word)
 
 -- a word asks for nothing: it isn't a name, `=` and numbers; or memory ran out
-abbrev pub HasNoForm : List ℕ → NoPoint → Type 0
+abbrev pub HasNoForm : List ℕ → NoAnswer → Type 0
 HasNoForm word (Refused text) = (numbers_in word ≡ None) × (text.items ≡ refusal_text (name_in word) Form)
 HasNoForm word Memory = Unit {0}
 
 -- what a word asks for, or why it asks for nothing
-abbrev pub IsParameter : List ℕ → Result Parameter NoPoint → Type 0
+abbrev pub IsParameter : List ℕ → Result Parameter NoAnswer → Type 0
 IsParameter word result =
     MatchResult result (λ parameter. (parameter.name.items ≡ name_in word) × (numbers_in word ≡ Some parameter.values.items)) (HasNoForm word)

@@ -9,8 +9,8 @@ use Rattle.std.specs.Str.Lines.{lines}
 use Rattle.gw_parameters.specs.Parameters.{name_in, numbers_in, HasNoForm}
 use Rattle.gw_parameters.specs.Refusals.{refusal_text, Tells}
 use Rattle.gw_parameters.specs.Texts.{IsRenumbered, IsRefused}
-use Rattle.gw_parameters.specs.declared.fault.NoPoint.{NoPoint}
-use Rattle.gw_parameters.specs.declared.fault.NoPoint.TheVariants.{Refused, Memory}
+use Rattle.gw_parameters.specs.declared.fault.NoAnswer.{NoAnswer}
+use Rattle.gw_parameters.specs.declared.fault.NoAnswer.TheVariants.{Refused, Memory}
 use Rattle.gw_parameters.specs.declared.fault.ParameterFault.{ParameterFault}
 use Rattle.gw_parameters.specs.declared.fault.ParameterFault.TheVariants as faults
 use Rattle.gw_parameters.specs.declared.parameters.Parameter.{Parameter}
@@ -35,35 +35,35 @@ fault_of first second =
     else None
 
 -- the points of a name
-abbrev pub IsLine : Parameter → Result Points NoPoint → Type 0
+abbrev pub IsLine : Parameter → Result Points NoAnswer → Type 0
 IsLine parameter (Ok points) = (points ≡ Line parameter) × (are_too_many (length parameter.values.items) 1 ≡ false)
 IsLine parameter (Err (Refused text)) =
     (are_too_many (length parameter.values.items) 1 ≡ true) × (text.items ≡ refusal_text parameter.name.items faults.Points)
 IsLine parameter (Err Memory) = Unit {0}
 
 -- the points of two names
-abbrev pub IsGrid : Parameter → Parameter → Result Points NoPoint → Type 0
+abbrev pub IsGrid : Parameter → Parameter → Result Points NoAnswer → Type 0
 IsGrid first second (Ok points) = (points ≡ Grid first second) × (fault_of first second ≡ None)
 IsGrid first second (Err (Refused text)) =
     (fault : ParameterFault) × (fault_of first second ≡ Some fault) × (text.items ≡ refusal_text second.name.items fault)
 IsGrid first second (Err Memory) = Unit {0}
 
 -- a word asks for nothing
-abbrev pub IsUnread : List ℕ → Result Points NoPoint → Type 0
+abbrev pub IsUnread : List ℕ → Result Points NoAnswer → Type 0
 IsUnread word (Ok points) = ⊥
 IsUnread word (Err none) = HasNoForm word none
 
 -- the points of a name and another word
-abbrev pub AsksWith : Parameter → List ℕ → Result Points NoPoint → Type 0
+abbrev pub AsksWith : Parameter → List ℕ → Result Points NoAnswer → Type 0
 AsksWith first word result = ((second : Parameter) × Asks word second × IsGrid first second result) ⊎ IsUnread word result
 
 -- there are no points for this reason, or for want of memory
-abbrev pub AsksInVain : List ℕ → ParameterFault → Result Points NoPoint → Type 0
+abbrev pub AsksInVain : List ℕ → ParameterFault → Result Points NoAnswer → Type 0
 AsksInVain name fault (Ok points) = ⊥
 AsksInVain name fault (Err none) = Tells name fault none
 
 -- the points that words ask for: the model as it is, those of a name, or those of two
-abbrev pub AsksFor : List (List ℕ) → Result Points NoPoint → Type 0
+abbrev pub AsksFor : List (List ℕ) → Result Points NoAnswer → Type 0
 AsksFor [] result = result ≡ Ok One
 AsksFor (word ∷ []) result = ((parameter : Parameter) × Asks word parameter × IsLine parameter result) ⊎ IsUnread word result
 AsksFor (word ∷ other ∷ []) result = ((first : Parameter) × Asks word first × AsksWith first other result) ⊎ IsUnread word result
@@ -76,11 +76,11 @@ abbrev pub IsOnLine : List ℕ → Parameter → ℕ → List ℕ → Type 0
 IsOnLine text parameter i made =
     (value : ℤ) × (slice_get parameter.values.items i ≡ Some value) × IsRenumbered (lines text) parameter.name.items value made
 
-abbrev pub HasNoLine : List ℕ → Parameter → NoPoint → Type 0
+abbrev pub HasNoLine : List ℕ → Parameter → NoAnswer → Type 0
 HasNoLine text parameter none = IsRefused (lines text) parameter.name.items none
 
 -- such a text, or why there is none
-abbrev pub IsLineText : List ℕ → Parameter → ℕ → Result (Vec ℕ Global) NoPoint → Type 0
+abbrev pub IsLineText : List ℕ → Parameter → ℕ → Result (Vec ℕ Global) NoAnswer → Type 0
 IsLineText text parameter i result =
     MatchResult result (λ made. IsOnLine text parameter i made.items) (HasNoLine text parameter)
 
@@ -91,12 +91,12 @@ IsOnGrid text first second point made =
     × IsOnLine middle second (point % length second.values.items) made
 
 -- it has no line of the first, or with a number of the first none of the second
-abbrev pub HasNoGrid : List ℕ → Parameter → Parameter → NoPoint → Type 0
+abbrev pub HasNoGrid : List ℕ → Parameter → Parameter → NoAnswer → Type 0
 HasNoGrid text first second none =
     HasNoLine text first none ⊎ ((i : ℕ) × (middle : List ℕ) × IsOnLine text first i middle × HasNoLine middle second none)
 
 -- a text with a number of each of two names, or why there is none
-abbrev pub IsGridText : List ℕ → Parameter → Parameter → ℕ → Result (Vec ℕ Global) NoPoint → Type 0
+abbrev pub IsGridText : List ℕ → Parameter → Parameter → ℕ → Result (Vec ℕ Global) NoAnswer → Type 0
 IsGridText text first second point result =
     MatchResult result (λ made. IsOnGrid text first second point made.items) (HasNoGrid text first second)
 
@@ -113,13 +113,13 @@ IsPoint text (Line parameter) point made = IsOnLine text parameter point made
 IsPoint text (Grid first second) point made = IsOnGrid text first second point made
 
 -- why there is none
-abbrev pub HasNoPoint : List ℕ → Points → NoPoint → Type 0
+abbrev pub HasNoPoint : List ℕ → Points → NoAnswer → Type 0
 HasNoPoint text One none = none ≡ Memory
 HasNoPoint text (Line parameter) none = HasNoLine text parameter none
 HasNoPoint text (Grid first second) none = HasNoGrid text first second none
 
 -- that text, or why there is none
-abbrev pub IsPointText : List ℕ → Points → ℕ → Result (Vec ℕ Global) NoPoint → Type 0
+abbrev pub IsPointText : List ℕ → Points → ℕ → Result (Vec ℕ Global) NoAnswer → Type 0
 IsPointText text points point result =
     MatchResult result (λ made. IsPoint text points point made.items) (HasNoPoint text points)
 

@@ -2,8 +2,8 @@
 use Rattle.std.specs.Prelude.{◌≡◌, ℕ, List, [], ◌++◌, codes, Option, Some, None, Result, MatchResult, Vec}
 use Rattle.std.specs.Fmt.{decimal}
 use Rattle.std.specs.Global.{Global}
-use Rattle.gw_parameters.specs.declared.fault.NoPoint.{NoPoint}
-use Rattle.gw_parameters.specs.declared.fault.NoPoint.TheVariants.{Refused, Memory}
+use Rattle.gw_parameters.specs.declared.fault.NoAnswer.{NoAnswer}
+use Rattle.gw_parameters.specs.declared.fault.NoAnswer.TheVariants.{Refused, Memory}
 use Rattle.gw_parameters.specs.declared.fault.ParameterFault.{ParameterFault}
 use Rattle.gw_parameters.specs.declared.fault.ParameterFault.TheVariants.{Form, Points, Names, Unknown, Doubled, NotPlain, Figure}
 
@@ -44,10 +44,10 @@ abbrev pub refusal_text : List ℕ → ParameterFault → List ℕ
 refusal_text name fault = head name fault ++ reason fault
 
 -- this text, or want of memory
-abbrev pub Makes : List ℕ → Result (Vec ℕ Global) NoPoint → Type 0
+abbrev pub Makes : List ℕ → Result (Vec ℕ Global) NoAnswer → Type 0
 Makes text result = MatchResult result (λ made. made.items ≡ text) (λ none. none ≡ Memory)
 
 -- there is no point for this reason, or for want of memory
-abbrev pub Tells : List ℕ → ParameterFault → NoPoint → Type 0
+abbrev pub Tells : List ℕ → ParameterFault → NoAnswer → Type 0
 Tells name fault (Refused text) = text.items ≡ refusal_text name fault
 Tells name fault Memory = Unit {0}

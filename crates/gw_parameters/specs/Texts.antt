@@ -5,8 +5,8 @@ use Rattle.std.specs.Borrow.{Bor}
 use Rattle.std.specs.Global.{Global}
 use Rattle.gw_parameters.specs.Operands.{operand_of, cut_of, with_number_between}
 use Rattle.gw_parameters.specs.Refusals.{refusal_text}
-use Rattle.gw_parameters.specs.declared.fault.NoPoint.{NoPoint}
-use Rattle.gw_parameters.specs.declared.fault.NoPoint.TheVariants.{Refused, Memory}
+use Rattle.gw_parameters.specs.declared.fault.NoAnswer.{NoAnswer}
+use Rattle.gw_parameters.specs.declared.fault.NoAnswer.TheVariants.{Refused, Memory}
 use Rattle.gw_parameters.specs.declared.fault.ParameterFault.{ParameterFault}
 use Rattle.gw_parameters.specs.declared.fault.ParameterFault.TheVariants.{Form, Points, Names, Unknown, Doubled, NotPlain, Figure}
 
@@ -75,11 +75,11 @@ abbrev pub IsOne : List ℕ → List (List ℕ) → Result ℕ ParameterFault �
 IsOne name lines result = MatchResult result (λ number. lines_of name 0 lines ≡ number ∷ []) (HasNoPlace lines name)
 
 -- a name is refused for a reason, or memory ran out
-abbrev pub IsRefused : List (List ℕ) → List ℕ → NoPoint → Type 0
+abbrev pub IsRefused : List (List ℕ) → List ℕ → NoAnswer → Type 0
 IsRefused lines name (Refused text) = (fault : ParameterFault) × (text.items ≡ refusal_text name fault) × HasNoPlace lines name fault
 IsRefused lines name Memory = Unit {0}
 
 -- the text of lines with another number on the one line of a name, or why there is none
-abbrev pub IsTextWith : List (List ℕ) → List ℕ → ℤ → Result (Vec ℕ Global) NoPoint → Type 0
+abbrev pub IsTextWith : List (List ℕ) → List ℕ → ℤ → Result (Vec ℕ Global) NoAnswer → Type 0
 IsTextWith lines name value result =
     MatchResult result (λ text. IsRenumbered lines name value text.items) (IsRefused lines name)

@@ -29,10 +29,10 @@ pub enum ParameterFault {
     Figure,
 }
 
-/// Why there is no text of a point.
+/// Why what is asked for isn't there: points, their texts, or an experiment.
 #[derive(Drop)]
-pub enum NoPoint {
-    /// A parameter is refused; this is the refusal as it is printed.
+pub enum NoAnswer {
+    /// It is refused; this is the refusal as it is printed.
     Refused(Vec<u8>),
     /// Memory ran out.
     Memory,
@@ -114,11 +114,11 @@ pub fn refusal_of(alloc: Global, name: &[u8], fault: ParameterFault) -> Result<V
 }
 
 /// The same, as the reason why there is no point; or want of memory.
-pub(crate) fn no_point(alloc: Global, name: &[u8], fault: ParameterFault) -> NoPoint
+pub(crate) fn no_point(alloc: Global, name: &[u8], fault: ParameterFault) -> NoAnswer
     ensures { model.Tells name.now fault result }
 {
     match refusal_of(alloc, name, fault) {
-        Ok(text) => NoPoint::Refused(text),
-        Err(Memory) => NoPoint::Memory,
+        Ok(text) => NoAnswer::Refused(text),
+        Err(Memory) => NoAnswer::Memory,
     }
 }

@@ -7,7 +7,7 @@ ghost use Rattle.gw_num.specs.Numerals.{is_number as has_digits};
 ghost use Rattle.gw_parameters.specs.Parameters as model;
 ghost use Rattle.gw_parameters.specs.Parameters.{words_left};
 
-use crate::fault::{NoPoint, ParameterFault, no_point};
+use crate::fault::{NoAnswer, ParameterFault, no_point};
 use gw_object::Memory;
 use gw_text_tokens::tokens::value_of;
 use std::alloc::Global;
@@ -144,25 +144,25 @@ fn name_in(alloc: Global, word: &[u8]) -> Result<Vec<u8>, Memory>
 }
 
 /// A name and its numbers.
-fn parameter_with(alloc: Global, word: &[u8], values: Vec<i64>) -> Result<Parameter, NoPoint>
+fn parameter_with(alloc: Global, word: &[u8], values: Vec<i64>) -> Result<Parameter, NoAnswer>
     requires { Some values.items ≡ model.numbers_in word.now }
     ensures { model.IsParameter word.now result }
 {
     match name_in(alloc, word) {
         Ok(name) => Ok(Parameter { name, values }),
-        Err(Memory) => Err(NoPoint::Memory),
+        Err(Memory) => Err(NoAnswer::Memory),
     }
 }
 
 /// What a word asks for: a name, `=`, and whole numbers with commas between them, each with a `-` or none and within 64 bits.
 ///
 /// Another word is refused (83 Parameter), under all that stands before its first `=`.
-pub fn parameter_in(alloc: Global, word: &[u8]) -> Result<Parameter, NoPoint>
+pub fn parameter_in(alloc: Global, word: &[u8]) -> Result<Parameter, NoAnswer>
     ensures { model.IsParameter word.now result }
 {
     match numbers_in(alloc, word) {
         Ok(Some(values)) => parameter_with(alloc, word, values),
         Ok(None) => Err(no_point(alloc, name_before(word), ParameterFault::Form)),
-        Err(Memory) => Err(NoPoint::Memory),
+        Err(Memory) => Err(NoAnswer::Memory),
     }
 }

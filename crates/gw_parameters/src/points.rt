@@ -4,7 +4,7 @@ ghost use Rattle.std.specs.Prelude.{◌≡◌, ◌<◌, ◌≤◌, ◌*◌, ◌+
 ghost use Rattle.gw_parameters.specs.Points as model;
 ghost use Rattle.gw_parameters.specs.Refusals.{Makes};
 
-use crate::fault::{NoPoint, ParameterFault, no_point};
+use crate::fault::{NoAnswer, ParameterFault, no_point};
 use crate::parameters::{Parameter, name_before, parameter_in};
 use crate::texts::text_with;
 use gw_object::Memory;
@@ -33,7 +33,7 @@ fn are_too_many(first: usize, second: usize) -> bool
 }
 
 /// The points of a name.
-fn line_of(alloc: Global, parameter: Parameter) -> Result<Points, NoPoint>
+fn line_of(alloc: Global, parameter: Parameter) -> Result<Points, NoAnswer>
     ensures line { model.IsLine parameter result }
     ensures few { IfOk result (λ points. model.count_of points ≤ 64) }
 {
@@ -59,7 +59,7 @@ fn fault_of(first: &Parameter, second: &Parameter) -> Option<ParameterFault>
 }
 
 /// The points of two names.
-fn grid_of(alloc: Global, first: Parameter, second: Parameter) -> Result<Points, NoPoint>
+fn grid_of(alloc: Global, first: Parameter, second: Parameter) -> Result<Points, NoAnswer>
     ensures grid { model.IsGrid first second result }
     ensures few { IfOk result (λ points. model.count_of points ≤ 64) }
 {
@@ -75,7 +75,7 @@ fn grid_of(alloc: Global, first: Parameter, second: Parameter) -> Result<Points,
 }
 
 /// The points that one word asks for.
-fn points_of_word(alloc: Global, word: &[u8]) -> Result<Points, NoPoint>
+fn points_of_word(alloc: Global, word: &[u8]) -> Result<Points, NoAnswer>
     ensures points { model.AsksFor (word.now ∷ []) result }
     ensures few { IfOk result (λ points. model.count_of points ≤ 64) }
 {
@@ -86,7 +86,7 @@ fn points_of_word(alloc: Global, word: &[u8]) -> Result<Points, NoPoint>
 }
 
 /// The points that a name and another word ask for.
-fn points_with(alloc: Global, first: Parameter, word: &[u8]) -> Result<Points, NoPoint>
+fn points_with(alloc: Global, first: Parameter, word: &[u8]) -> Result<Points, NoAnswer>
     ensures points { model.AsksWith first word.now result }
     ensures few { IfOk result (λ points. model.count_of points ≤ 64) }
 {
@@ -100,7 +100,7 @@ fn points_with(alloc: Global, first: Parameter, word: &[u8]) -> Result<Points, N
 }
 
 /// The points that two words ask for.
-fn points_of_words(alloc: Global, first: &[u8], second: &[u8]) -> Result<Points, NoPoint>
+fn points_of_words(alloc: Global, first: &[u8], second: &[u8]) -> Result<Points, NoAnswer>
     ensures points { model.AsksFor (first.now ∷ second.now ∷ []) result }
     ensures few { IfOk result (λ points. model.count_of points ≤ 64) }
 {
@@ -114,7 +114,7 @@ fn points_of_words(alloc: Global, first: &[u8], second: &[u8]) -> Result<Points,
 /// name; or a point for each pair of numbers of two.
 ///
 /// A word that isn't such a one is refused (83 Parameter), and so are a third word, one name twice, and more than 64 points.
-pub fn points_of(alloc: Global, words: &[&[u8]]) -> Result<Points, NoPoint>
+pub fn points_of(alloc: Global, words: &[&[u8]]) -> Result<Points, NoAnswer>
     ensures points { model.AsksFor (map (λ w. w.now) words.now) result }
     ensures few { IfOk result (λ points. model.count_of points ≤ 64) }
 {
@@ -127,13 +127,13 @@ pub fn points_of(alloc: Global, words: &[&[u8]]) -> Result<Points, NoPoint>
 }
 
 /// A copy of a text.
-fn copy_of(alloc: Global, text: &[u8]) -> Result<Vec<u8>, NoPoint>
+fn copy_of(alloc: Global, text: &[u8]) -> Result<Vec<u8>, NoAnswer>
     ensures { Makes text.now result }
 {
     let mut made = Vec::new(alloc);
     match made.extend_from_slice(text) {
         Ok(()) => Ok(made),
-        Err(_) => Err(NoPoint::Memory),
+        Err(_) => Err(NoAnswer::Memory),
     }
 }
 
@@ -151,7 +151,7 @@ fn text_on_line(
     text: &[u8],
     parameter: &Parameter,
     i: usize,
-) -> Result<Vec<u8>, NoPoint>
+) -> Result<Vec<u8>, NoAnswer>
     requires { i < length parameter.now.values.items }
     ensures { model.IsLineText text.now parameter.now i result }
 {
@@ -165,7 +165,7 @@ fn text_on_grid(
     first: &Parameter,
     second: &Parameter,
     point: usize,
-) -> Result<Vec<u8>, NoPoint>
+) -> Result<Vec<u8>, NoAnswer>
     requires { point < length first.now.values.items * length second.now.values.items }
     ensures { model.IsGridText text.now first.now second.now point result }
 {
@@ -192,7 +192,7 @@ impl Points {
     /// The text of a point, by its number from 0: the model's but for the numbers of its names.
     ///
     /// A name that the text gives no number, or more than one line, is refused (83 Parameter).
-    pub fn text_at(&self, alloc: Global, text: &[u8], point: usize) -> Result<Vec<u8>, NoPoint>
+    pub fn text_at(&self, alloc: Global, text: &[u8], point: usize) -> Result<Vec<u8>, NoAnswer>
         requires { point < model.count_of self.now }
         ensures { model.IsPointText text.now self.now point result }
     {

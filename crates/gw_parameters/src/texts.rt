@@ -7,7 +7,7 @@ ghost use Rattle.gw_parameters.specs.Refusals.{Makes};
 ghost use Rattle.gw_parameters.specs.Texts as model;
 ghost use Rattle.gw_parameters.specs.Texts.{text_with_value};
 
-use crate::fault::{NoPoint, ParameterFault, no_point};
+use crate::fault::{NoAnswer, ParameterFault, no_point};
 use crate::operands::{cut_of, operand_of};
 use gw_object::Memory;
 use gw_text_tokens::lines::{line_at, lines_of};
@@ -106,12 +106,12 @@ fn text_if_room(
     before: &[u8],
     rest: &[u8],
     value: i64,
-) -> Result<Vec<u8>, NoPoint>
+) -> Result<Vec<u8>, NoAnswer>
     ensures { Makes (text_with_value number value (before.now, rest.now) lines.now) result }
 {
     match text_of(alloc, lines, number, before, rest, value) {
         Ok(text) => Ok(text),
-        Err(Memory) => Err(NoPoint::Memory),
+        Err(Memory) => Err(NoAnswer::Memory),
     }
 }
 
@@ -122,7 +122,7 @@ fn text_at(
     number: usize,
     name: &[u8],
     value: i64,
-) -> Result<Vec<u8>, NoPoint>
+) -> Result<Vec<u8>, NoAnswer>
     requires within { number < length lines.now }
     requires one { model.lines_of name.now 0 (map (λ l. l.now) lines.now) ≡ number ∷ [] }
     ensures { model.IsTextWith (map (λ l. l.now) lines.now) name.now value result }
@@ -139,7 +139,7 @@ fn text_of_lines(
     lines: &[&[u8]],
     name: &[u8],
     value: i64,
-) -> Result<Vec<u8>, NoPoint>
+) -> Result<Vec<u8>, NoAnswer>
     ensures { model.IsTextWith (map (λ l. l.now) lines.now) name.now value result }
 {
     match number_of(lines, name) {
@@ -153,11 +153,11 @@ fn text_of_lines(
 /// it. Each line ends by a line feed.
 ///
 /// A name that no line or more than one gives a number is refused (83 Parameter), and so is another operand than a number.
-pub fn text_with(alloc: Global, text: &[u8], name: &[u8], value: i64) -> Result<Vec<u8>, NoPoint>
+pub fn text_with(alloc: Global, text: &[u8], name: &[u8], value: i64) -> Result<Vec<u8>, NoAnswer>
     ensures { model.IsTextWith (lines_of_text text.now) name.now value result }
 {
     match lines_of(alloc, text) {
         Ok(lines) => text_of_lines(alloc, &lines, name, value),
-        Err(_) => Err(NoPoint::Memory),
+        Err(_) => Err(NoAnswer::Memory),
     }
 }

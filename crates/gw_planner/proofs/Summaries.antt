@@ -13,7 +13,7 @@ use Rattle.gw_figures.specs.Labels.{Label, labels_of}
 use Rattle.gw_figures.specs.declared.run.Run.{Run}
 use Rattle.gw_figures.proofs.OfLabels.{values_are_of_labels}
 use Rattle.gw_parameters.specs.Points.{count_of}
-use Rattle.gw_parameters.specs.declared.fault.NoPoint.{NoPoint}
+use Rattle.gw_parameters.specs.declared.fault.NoAnswer.{NoAnswer}
 use Rattle.gw_parameters.specs.declared.points.Points.{Points}
 use Rattle.gw_parameters.specs.declared.points.Points.TheVariants.{One}
 use Rattle.gw_rows.specs.Reading.{HasFigures, IsLine, IsPlain, IsWithoutFeed, MayBeInRange, MayChange, Outcome, outcome_of}
@@ -124,7 +124,7 @@ record IsAlone (text : List ℕ) (request : RowsRequest) (rows : List ℕ) : Typ
   made : AreRowsOf (common_of text request) point request.first request.end behind
   whole : rows ≡ header_of point ++ behind
 
-abbrev as_asked : Points → Result Points NoPoint
+abbrev as_asked : Points → Result Points NoAnswer
 as_asked points = Ok points
 
 one_is : (points : Points) → as_asked points ≡ as_asked One → points ≡ One

@@ -8,12 +8,13 @@ ghost use Rattle.gw_study.specs.Seeds.{seeds_of_run};
 ghost use Rattle.gw_shards.specs.Objects as model;
 ghost use Rattle.gw_shards.specs.Objects.{IsObjectAnswer};
 
-use gw_alternatives::{NoAlternative, StudyPoint, points_by_words};
+use gw_alternatives::{StudyPoint, points_by_words};
 use gw_answers::status::{ENDED, REFUSED};
 use gw_answers::{Answer, Refusal, answer_refusal};
 use gw_fields::Items;
 use gw_object::{Memory, Object, Parts, codes};
 use gw_object_bytes::{build, read, write};
+use gw_parameters::NoAnswer;
 use gw_study::seeds_of;
 use std::alloc::Global;
 
@@ -122,10 +123,10 @@ pub fn object_of_run(
 {
     match points_by_words(alloc, text, words, count) {
         Ok(points) => object_of(alloc, &points, run),
-        Err(NoAlternative::Refused(refusal)) => Ok(Answer {
+        Err(NoAnswer::Refused(refusal)) => Ok(Answer {
             text: refusal,
             status: REFUSED,
         }),
-        Err(NoAlternative::Memory) => Err(Memory),
+        Err(NoAnswer::Memory) => Err(Memory),
     }
 }

@@ -11,11 +11,12 @@ ghost use Rattle.gw_shards.specs.Rows as model;
 ghost use Rattle.gw_shards.specs.Rows.{AreRequestRows, view};
 
 use crate::request::RowsRequest;
-use gw_alternatives::{NoAlternative, StudyPoint, points_by_words};
+use gw_alternatives::{StudyPoint, points_by_words};
 use gw_answers::Answer;
 use gw_answers::status::{ENDED, REFUSED};
 use gw_figures::{Figure, Run, figures};
 use gw_object::Memory;
+use gw_parameters::NoAnswer;
 use gw_rows::{Origin, digest_of, put_header, put_refusal, put_row};
 use gw_study::results_between;
 use std::alloc::Global;
@@ -242,7 +243,7 @@ pub fn rows_between<T: Threads + Sync + Eprint>(
     };
     match points_by_words(alloc, text, words, request.count) {
         Ok(points) => told(rt, alloc, &common, &points, request),
-        Err(NoAlternative::Refused(refusal)) => refused(alloc, &digest, &refusal),
-        Err(NoAlternative::Memory) => Err(Memory),
+        Err(NoAnswer::Refused(refusal)) => refused(alloc, &digest, &refusal),
+        Err(NoAnswer::Memory) => Err(Memory),
     }
 }

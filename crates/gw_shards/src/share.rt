@@ -8,11 +8,12 @@ ghost use Rattle.gw_shards.specs.Rows.{view, digest as digest_text};
 ghost use Rattle.gw_shards.specs.Shares as model;
 
 use crate::rows::{Common, put_header_if_other, put_rows_of, refused};
-use gw_alternatives::{NoAlternative, StudyPoint, points_by_words};
+use gw_alternatives::{StudyPoint, points_by_words};
 use gw_answers::Answer;
 use gw_answers::status::ENDED;
-use gw_experiment::{Experiment, NoExperiment, Share, experiment_in, runs_of_point};
+use gw_experiment::{Experiment, Share, experiment_in, runs_of_point};
 use gw_object::Memory;
+use gw_parameters::NoAnswer;
 use gw_rows::digest_of;
 use std::alloc::Global;
 use std::io::Eprint;
@@ -178,8 +179,8 @@ fn share_of<T: Threads + Sync + Eprint>(
     let words = words_of(alloc, experiment)?;
     match points_by_words(alloc, text, &words, experiment.count) {
         Ok(points) => share_of_points(rt, alloc, digest, &points, experiment, part),
-        Err(NoAlternative::Refused(refusal)) => refused(alloc, digest, &refusal),
-        Err(NoAlternative::Memory) => Err(Memory),
+        Err(NoAnswer::Refused(refusal)) => refused(alloc, digest, &refusal),
+        Err(NoAnswer::Memory) => Err(Memory),
     }
 }
 
@@ -205,7 +206,7 @@ pub fn rows_of_share<T: Threads + Sync + Eprint>(
     };
     match experiment_in(alloc, text) {
         Ok(experiment) => share_of(rt, alloc, text, &digest, &experiment, part),
-        Err(NoExperiment::Refused(refusal)) => refused(alloc, &digest, &refusal),
-        Err(NoExperiment::Memory) => Err(Memory),
+        Err(NoAnswer::Refused(refusal)) => refused(alloc, &digest, &refusal),
+        Err(NoAnswer::Memory) => Err(Memory),
     }
 }

@@ -5,7 +5,7 @@ ghost use Rattle.gw_rows.specs.Rows.{texts};
 ghost use Rattle.gw_summary.specs.Holding.{HasNoNames};
 
 use gw_object::Memory;
-use gw_parameters::{NoPoint, Parameter, parameter_in};
+use gw_parameters::{NoAnswer, Parameter, parameter_in};
 use itoa::Buffer;
 use std::alloc::Global;
 
@@ -34,8 +34,8 @@ fn add(numbers: &mut Numbers, parameter: Parameter) -> Result<bool, Memory> {
 fn add_word(alloc: Global, numbers: &mut Numbers, word: &[u8]) -> Result<bool, Memory> {
     match parameter_in(alloc, word) {
         Ok(parameter) => add(numbers, parameter),
-        Err(NoPoint::Refused(_)) => Ok(false),
-        Err(NoPoint::Memory) => Err(Memory),
+        Err(NoAnswer::Refused(_)) => Ok(false),
+        Err(NoAnswer::Memory) => Err(Memory),
     }
 }
 
