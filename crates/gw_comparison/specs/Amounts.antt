@@ -1,7 +1,6 @@
 -- Numbers of millionths, as they are told.
-use Rattle.std.specs.Prelude.{ℕ, ◌+◌, ◌-◌, ◌*◌, min, max, ◌/◌, ◌%◌, nat_lt, List, [], ◌++◌, drop, codes, ℤ, pos, unsigned_abs, int_lt, Bool, ◌&&◌}
+use Rattle.std.specs.Prelude.{ℕ, ◌+◌, ◌/◌, ◌%◌, nat_lt, List, [], ◌++◌, drop, codes, ℤ, pos, unsigned_abs, int_lt, Bool, ◌&&◌}
 use Rattle.std.specs.Prelude.{if◌then◌else◌}
-use Rattle.std.specs.Int.{div_ceil}
 use Rattle.std.specs.Fmt.{decimal}
 
 -- what a number has before its first digit
@@ -29,11 +28,3 @@ nearest_thousandths size = (size + 500) / 1000
 abbrev pub amount : ℤ → List ℕ
 amount number =
     thousandths (int_lt number (pos 0) && nat_lt 0 (nearest_thousandths (unsigned_abs number))) (nearest_thousandths (unsigned_abs number))
-
--- how far a number of millionths lies from what is told of it
-abbrev pub told_apart : ℕ → ℕ
-told_apart size = max (1000 * nearest_thousandths size) size - min (1000 * nearest_thousandths size) size
-
--- a half-width of millionths in thousandths, beside a mean of this size: rounded up, with what rounding the mean adds
-abbrev pub wide_thousandths : ℕ → ℕ → ℕ
-wide_thousandths size half_width = div_ceil (half_width + told_apart size) 1000

@@ -3,8 +3,9 @@ use Rattle.std.specs.Prelude.{◌≡◌, ℕ, ◌+◌, ◌≤◌, ◌<◌, ◌^�
 use Rattle.std.specs.Prelude.{if◌then◌else◌, Option, Some, None, MatchBool}
 use Rattle.std.specs.List.{All}
 use Rattle.gw_statistics.specs.Pairs.{differences}
+use Rattle.gw_statistics.specs.Telling.{told_half_width}
 use Rattle.gw_statistics.specs.declared.summary.Summary.{Summary}
-use Rattle.gw_comparison.specs.Amounts.{amount, thousandths, wide_thousandths}
+use Rattle.gw_comparison.specs.Amounts.{amount, thousandths}
 use Rattle.gw_writing.specs.Columns.{left, right}
 use Rattle.gw_comparison.specs.Points.{column_of, is_told, values_in, IsAccount}
 use Rattle.gw_comparison.specs.declared.accounts.Account.{Account}
@@ -21,7 +22,7 @@ verdict_of mean half_width = if differs mean half_width then codes "  differs\n"
 
 -- the half-width of a difference, if it is known, and what is said
 abbrev pub known_confidence : ℤ → ℕ → List ℕ
-known_confidence mean half_width = right 16 (thousandths false (wide_thousandths (unsigned_abs mean) half_width)) ++ verdict_of mean half_width
+known_confidence mean half_width = right 16 (thousandths false (told_half_width mean half_width)) ++ verdict_of mean half_width
 
 abbrev pub no_confidence : List ℕ
 no_confidence = right 16 (codes "-") ++ codes "\n"

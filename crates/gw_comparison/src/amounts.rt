@@ -1,6 +1,6 @@
 //! Numbers of millionths, as they are told.
 
-ghost use Rattle.std.specs.Prelude.{◌≡◌, ◌≤◌, ◌^◌, ◌++◌, unsigned_abs, OnOk};
+ghost use Rattle.std.specs.Prelude.{◌≡◌, ◌++◌, OnOk};
 ghost use Rattle.gw_comparison.specs.Amounts as model;
 
 use gw_object::Memory;
@@ -56,14 +56,4 @@ pub(crate) fn put_amount(out: &mut Vec<u8>, number: &i128) -> Result<(), Memory>
 {
     let size = (number.unsigned_abs() + 500) / 1_000;
     put_thousandths(out, *number < 0 && size > 0, size)
-}
-
-/// A half-width of millionths in thousandths, as it is told beside its mean: rounded up, with what rounding the mean adds.
-pub(crate) fn wide_thousandths(mean: &i128, half_width: u128) -> u128
-    requires { half_width ≤ 2 ^ 120 }
-    ensures { result ≡ model.wide_thousandths (unsigned_abs mean.now) half_width }
-{
-    let size = mean.unsigned_abs();
-    let told = 1_000 * ((size + 500) / 1_000);
-    (half_width + (told.max(size) - told.min(size))).div_ceil(1_000)
 }

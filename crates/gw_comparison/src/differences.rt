@@ -6,10 +6,10 @@ ghost use Rattle.gw_comparison.specs.Differences as model;
 ghost use Rattle.gw_comparison.specs.Points.{IsAccount};
 
 use crate::accounts::{Account, account_in, account_of, column_of, is_told};
-use crate::amounts::{put_amount, put_thousandths, wide_thousandths};
+use crate::amounts::{put_amount, put_thousandths};
 use crate::point::{Column, Point};
 use gw_object::Memory;
-use gw_statistics::{Summary, differences};
+use gw_statistics::{Summary, differences, told_half_width};
 use gw_writing::{put_left, put_right};
 use std::alloc::Global;
 
@@ -64,7 +64,7 @@ fn put_confidence(
     match half_width {
         Some(half_width) if half_width <= 1 << 120 => {
             let mut text = Vec::new(alloc);
-            put_thousandths(&mut text, false, wide_thousandths(mean, half_width))?;
+            put_thousandths(&mut text, false, told_half_width(*mean, half_width))?;
             put_right(out, NUMBER, &text)?;
             out.extend_from_slice(verdict_of(mean, half_width).as_bytes())
         }

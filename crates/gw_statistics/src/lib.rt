@@ -11,8 +11,10 @@ mod quantiles;
 mod rounding;
 mod summary;
 mod sums;
+mod telling;
 
 pub use pairs::differences;
 pub use quantiles::{QUANTILES, quantile, runs_to_halve};
 pub use rounding::{nearest, nearest_of};
 pub use summary::{MOST_VALUES, Summary, summarize};
+pub use telling::told_half_width;

@@ -1,5 +1,5 @@
 -- The parts of a table, one behind the other.
-use Rattle.std.proofs.Common.{◌≡◌, ◌∙◌, ℕ, List, ◌++◌, ap}
+use Rattle.std.proofs.Common.{◌≡◌, ◌∙◌, ℕ, List, ◌++◌, ap, append_assoc}
 use Rattle.gw_study.specs.Table.{Adds}
 
 -- what is added by each is the whole text
@@ -14,3 +14,7 @@ joined P Q R first ends head more a b c d e f g is_a is_b is_c (rows, told, is_d
     let to_e : e ≡ (((first ++ ends) ++ head) ++ rows) ++ more = is_e ∙ ap (λ x. x ++ more) to_d in
     let to_f : f ≡ ((((first ++ ends) ++ head) ++ rows) ++ more) ++ trends = is_f ∙ ap (λ x. x ++ trends) to_e in
     (rows, trends, growths, told, others, grown, is_g ∙ ap (λ x. x ++ growths) to_f)
+
+-- an average's change, two words behind it with a number between, are one text
+pub advised : (o p q a b d e : List ℕ) → p ≡ o ++ a → q ≡ p ++ (b ++ d) → q ++ e ≡ o ++ (a ++ b ++ d ++ e)
+advised o p q a b d e h k = rw (k, h) (simp append_assoc)

@@ -1,8 +1,9 @@
 -- The lines of a study.
-use Rattle.std.specs.Prelude.{ℕ, suc, ◌+◌, ◌-◌, ◌^◌, ◌/◌, ◌%◌, min, nat_le, nat_lt, List, [], ◌++◌, codes, ℤ, pos, negsuc}
+use Rattle.std.specs.Prelude.{ℕ, suc, ◌+◌, ◌^◌, ◌/◌, ◌%◌, nat_le, List, [], ◌++◌, codes, ℤ, pos, negsuc}
 use Rattle.std.specs.Prelude.{neg_ℤ, unsigned_abs, Option, None, Some, if◌then◌else◌}
 use Rattle.std.specs.Fmt.{decimal}
 use Rattle.gw_statistics.specs.declared.summary.Summary.{Summary}
+use Rattle.gw_statistics.specs.Telling.{told_half_width}
 use Rattle.gw_writing.specs.Columns.{left, right}
 
 -- a number of thousandths with three digits behind its point
@@ -26,20 +27,11 @@ abbrev pub thousandths_of : ℤ → ℤ
 thousandths_of (pos n) = pos (round_to_thousandths n)
 thousandths_of (negsuc n) = neg_ℤ (pos (round_to_thousandths (suc n)))
 
--- how far millionths lie from the thousandths that are told of them
-abbrev pub distance : ℤ → ℕ
-distance z =
-    let rest = unsigned_abs z % 1000 in if nat_lt rest 500 then rest else 1000 - rest
-
 -- a value of millionths in its column
 abbrev pub value_column : ℤ → List ℕ
 value_column z = right 16 (thousandths_text (thousandths_of z))
 
--- a half-width in thousandths: with what rounding the mean adds, and rounded up
-abbrev pub told_half_width : ℤ → ℕ → ℕ
-told_half_width mean h = (h + distance mean) / 1000 + min 1 ((h + distance mean) % 1000)
-
--- the same in its column, or a line where there is none
+-- a half-width as it is told, or a line where there is none
 abbrev pub half_width_text : ℤ → Option ℕ → List ℕ
 half_width_text mean None = codes "-"
 half_width_text mean (Some h) =

@@ -5,7 +5,7 @@ ghost use Rattle.gw_study.specs.Text as model;
 ghost use Rattle.gw_writing.specs.Columns.{right};
 
 use gw_object::Memory;
-use gw_statistics::Summary;
+use gw_statistics::{Summary, told_half_width};
 use gw_writing::{put_left, put_right};
 use std::alloc::Global;
 use std::fmt;
@@ -42,15 +42,6 @@ pub fn thousandths_of(value: i128) -> i128
     if value < 0 { -size } else { size }
 }
 
-/// How far millionths lie from the thousandths that are told of them.
-fn distance(value: i128) -> u128
-    ensures value { result ≡ model.distance value }
-    ensures range { result ≤ 500 }
-{
-    let rest = value.unsigned_abs() % 1000;
-    if rest < 500 { rest } else { 1000 - rest }
-}
-
 /// Appends thousandths.
 fn put_thousandths(alloc: Global, out: &mut Vec<u8>, number: i128) -> Result<(), Memory>
     ensures { OnOk result
@@ -65,15 +56,6 @@ fn put_value(alloc: Global, out: &mut Vec<u8>, value: &i128) -> Result<(), Memor
     ensures { OnOk result (out.new.items ≡ out.old.items ++ model.value_column value.now) }
 {
     put_thousandths(alloc, out, thousandths_of(*value))
-}
-
-/// A half-width as it is told, in thousandths: it covers what rounding the mean adds, and is rounded up.
-fn told_half_width(mean: i128, half_width: u128) -> u128
-    requires { half_width ≤ 2 ^ 64 }
-    ensures value { result ≡ model.told_half_width mean half_width }
-    ensures range { result ≤ 2 ^ 64 }
-{
-    (half_width + distance(mean)).div_ceil(1000)
 }
 
 /// Appends a half-width as it is told, or a line where there is none.
