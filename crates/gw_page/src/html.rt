@@ -1,4 +1,4 @@
-//! The page itself, and what a browser may do for it: written by page/write from page/page.html and the examples.
+//! The page itself, and what a browser may do for it: written by tools/page/write from tools/page/page.html and the examples.
 
 /// The page: one text with its style and script inside, and the models of examples/.
 pub(crate) const PAGE: &[u8] = b"<!doctype html>
