@@ -10,6 +10,7 @@ pub mod Laws
 pub mod Acceptance
 pub mod Refusal
 pub mod Service
+pub mod Reasons
 -- THE JOB OF A MODEL TEXT
 pub mod ModelJobs
 -- ITS RUN

@@ -11,6 +11,7 @@ pub mod codes;
 mod job;
 mod laws;
 mod names;
+mod reasons;
 mod refusal;
 mod request;
 mod running;
@@ -25,6 +26,7 @@ pub use answer::{
 pub use job::spec_of_text;
 pub use laws::answers_are_determined;
 pub use names::NAMES;
+pub use reasons::refusal_with_reason;
 pub use refusal::Refusal;
 pub use request::Request;
 pub use running::{Time, is_over, run_past};

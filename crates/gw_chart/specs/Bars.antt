@@ -1,7 +1,8 @@
 -- The classes of a table, as bars.
-use Rattle.std.specs.Prelude.{Bool, ℕ, ◌+◌, ◌-◌, ◌*◌, ◌/◌, ◌%◌, ℤ, pos, ◌+ℤ◌, min, List, [], ◌++◌, length, slice_index, codes, nat_lt, ◌||◌, ◌&&◌}
+use Rattle.std.specs.Prelude.{Bool, ℕ, ◌+◌, ◌-◌, ◌/◌, ◌%◌, min, List, [], ◌++◌, length, slice_index, codes, nat_lt, ◌||◌, ◌&&◌}
 use Rattle.std.specs.Prelude.{◌==◌, if◌then◌else◌}
 use Rattle.gw_object.specs.declared.parts.Table.{Table}
+use Rattle.gw_figures.specs.Values.{upper_limit}
 use Rattle.gw_chart.specs.declared.plot.Plot.{Plot}
 use Rattle.gw_drawing.specs.Numbers.{part_of_length, greatest}
 use Rattle.gw_drawing.specs.Text.{upto, tenths, text_at, signed_grouped}
@@ -28,13 +29,9 @@ abbrev pub bar : Plot → Levels → ℕ → ℕ → ℕ → List ℕ
 bar plot axis classes i value =
     bar_place plot classes i (bar_height plot axis value) ++ bar_size plot classes (bar_height plot axis value)
 
--- the upper limit of a class
-abbrev pub limit_of : Table → ℕ → ℤ
-limit_of table i = table.limit +ℤ pos (i * table.width)
-
 -- the upper limit of a class of so many; the last has none
 abbrev pub limit_text : Table → ℕ → ℕ → List ℕ
-limit_text table classes i = if i + 1 == classes then codes "more" else signed_grouped (limit_of table i)
+limit_text table classes i = if i + 1 == classes then codes "more" else signed_grouped (upper_limit table i)
 
 -- the same, below its bar
 abbrev pub limit : Plot → Table → ℕ → ℕ → List ℕ

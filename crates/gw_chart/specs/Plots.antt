@@ -6,7 +6,7 @@ use Rattle.gw_object.specs.declared.parts.Kind.TheVariants as kinds
 use Rattle.gw_chart.specs.declared.plot.Plot.{Plot}
 use Rattle.gw_chart.specs.declared.plot.Plot.TheVariants.{Owned, Units, Waiting, Set, Members, Value, Classes}
 use Rattle.gw_drawing.specs.Numbers.{part_of_length}
-use Rattle.gw_drawing.specs.Text.{upto, xml_text, tenths, text_at, signed_grouped}
+use Rattle.gw_drawing.specs.Text.{upto, xml_text, tenths, text_at, level_line, signed_grouped}
 use Rattle.gw_chart.specs.Axes.{Levels, reach_of, number_at}
 
 -- the plot of a kind of entity, if it has one
@@ -68,10 +68,6 @@ abbrev pub floor_of : Plot → ℕ
 floor_of plot = 320 + height_of plot
 
 -- TEXTS AND LINES
-
--- a level line through the plot
-abbrev pub level_line : ℕ → List ℕ
-level_line y = codes "<path d=\"M80.0 " ++ tenths y ++ codes "H700.0\" stroke=\"#ddd\"/>\n"
 
 -- an upright line through the plot
 abbrev pub upright_line : ℕ → Plot → List ℕ

@@ -3,28 +3,22 @@ use Rattle.std.specs.Prelude.{ℕ, ◌+◌, ℤ, List, [], ◌∷◌, ◌++◌, 
 use Rattle.std.specs.Ordering.{int_eq}
 use Rattle.std.specs.Option.{option_map_or}
 use Rattle.std.specs.Fmt.{signed_decimal}
-use Rattle.csv.specs.Writing.{default_writer, with_terminator, row_text}
-use Rattle.csv.specs.declared.parser.Terminator.TheVariants as term
-use Rattle.csv.specs.declared.writer.WriterBuilder.{WriterBuilder}
 use Rattle.gw_object.specs.declared.parts.Entity.{Entity}
 use Rattle.gw_chart.specs.declared.plot.Plot.{Plot}
 use Rattle.gw_chart.specs.declared.plot.Plot.TheVariants.{Owned, Units, Waiting, Set, Members, Value, Classes}
 use Rattle.gw_chart.specs.declared.bands.Band.{Band}
 use Rattle.gw_chart.specs.declared.window.Window.{Window}
 use Rattle.gw_drawing.specs.Text.{upto}
+use Rattle.gw_records.specs.Records.{record_text}
 use Rattle.gw_chart.specs.Windows.{moment}
 use Rattle.gw_chart.specs.Plots.{line_of}
 use Rattle.gw_chart.specs.Bands.{band_of}
 use Rattle.gw_chart.specs.Lines.{content, band_at}
 
--- how records are written: each with a carriage return and a line feed behind it
-abbrev pub crlf_writer : WriterBuilder
-crlf_writer = with_terminator default_writer term.CRLF
-
 -- a record of these fields
 abbrev pub csv_row : List ℕ → List ℕ → List ℕ → List ℕ → List ℕ → List ℕ → List ℕ
 csv_row time kind name value least greatest =
-    row_text crlf_writer (time ∷ kind ∷ name ∷ value ∷ least ∷ greatest ∷ [])
+    record_text (time ∷ kind ∷ name ∷ value ∷ least ∷ greatest ∷ [])
 
 -- the word of the kind of entity of which this is drawn
 abbrev pub word_of : Plot → List ℕ

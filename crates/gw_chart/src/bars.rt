@@ -1,6 +1,6 @@
 //! The classes of a table, as bars.
 
-ghost use Rattle.std.specs.Prelude.{◌≡◌, ◌≤◌, ◌<◌, ◌*◌, ◌+◌, ◌++◌, length, slice_index, OnOk};
+ghost use Rattle.std.specs.Prelude.{◌≡◌, ◌≤◌, ◌<◌, ◌+◌, ◌++◌, length, slice_index, OnOk};
 ghost use Rattle.gw_drawing.specs.Numbers.{greatest as greatest_of};
 ghost use Rattle.gw_chart.specs.Plots.{height_of as plot_height};
 ghost use Rattle.gw_chart.specs.Bars as model;
@@ -12,6 +12,7 @@ use crate::plot::{
 };
 use gw_drawing::numbers::part_of_length;
 use gw_drawing::text::{put_signed, put_tenths, put_text_at};
+use gw_figures::upper_limit;
 use gw_object::{Memory, Table};
 use gw_writing::put;
 
@@ -89,13 +90,6 @@ fn put_bar(
     put_bar_size(out, plot, classes, height)
 }
 
-/// The upper limit of a class.
-fn limit_of(table: &Table, i: u64) -> i128
-    ensures { result ≡ model.limit_of table.now i }
-{
-    table.limit as i128 + (i as u128 * table.width as u128) as i128
-}
-
 /// The upper limit of a class of so many; the last has none.
 fn put_limit_text(out: &mut Vec<u8>, table: &Table, classes: u64, i: u64) -> Result<(), Memory>
     requires { i < classes }
@@ -104,7 +98,7 @@ fn put_limit_text(out: &mut Vec<u8>, table: &Table, classes: u64, i: u64) -> Res
     if i + 1 == classes {
         put(out, "more")
     } else {
-        put_signed(out, limit_of(table, i))
+        put_signed(out, upper_limit(table, i))
     }
 }
 

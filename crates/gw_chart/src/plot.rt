@@ -6,7 +6,7 @@ ghost use Rattle.gw_chart.specs.Plots as model;
 use crate::axis::Axis;
 use crate::levels::{below_of, count_of, number_at, reach_of};
 use gw_drawing::numbers::part_of_length;
-use gw_drawing::text::{put_escaped, put_signed, put_tenths, put_text_at};
+use gw_drawing::text::{put_escaped, put_level_line, put_signed, put_tenths, put_text_at};
 use gw_object::{Kind, Memory};
 use gw_writing::put;
 
@@ -121,15 +121,6 @@ pub(crate) fn floor_of(plot: Plot) -> u64
     ensures most { result ≤ 1320 }
 {
     320 + height_of(plot)
-}
-
-/// A level line through a plot.
-fn put_level_line(out: &mut Vec<u8>, y: u64) -> Result<(), Memory>
-    ensures { OnOk result (out.new.items ≡ out.old.items ++ model.level_line y) }
-{
-    put(out, "<path d=\"M80.0 ")?;
-    put_tenths(out, y)?;
-    put(out, "H700.0\" stroke=\"#ddd\"/>\n")
 }
 
 /// An upright line through a plot.

@@ -1,7 +1,6 @@
 //! What was in each entity at each moment, as records.
 
-ghost use Rattle.std.specs.Prelude.{◌≡◌, ◌<◌, map, IfOk};
-ghost use Rattle.csv.specs.Writing.{row_text};
+ghost use Rattle.std.specs.Prelude.{◌≡◌, ◌<◌};
 ghost use Rattle.gw_chart.specs.Sheets as model;
 ghost use Rattle.gw_chart.specs.Sheets.{csv_row};
 ghost use Rattle.gw_chart.specs.Views as views;
@@ -13,37 +12,12 @@ use crate::line::{band_at, content};
 use crate::plot::{Plot, line_of};
 use crate::samples::Samples;
 use crate::window::{Window, moment};
-use csv::{Terminator, WriterBuilder};
 use gw_answers::Time;
 use gw_object::{Entity, Memory};
+use gw_records::put_record;
 use gw_scan::Sim;
 use itoa::Buffer;
 use std::alloc::Global;
-
-/// A record of fields, with its end.
-fn record_of(alloc: Global, fields: &[&[u8]]) -> Result<Vec<u8>, Memory>
-    ensures { IfOk result (λ row.
-        row.items ≡ row_text model.crlf_writer (map (λ field. field.now) fields.now)) }
-{
-    let mut writer = WriterBuilder::new()
-        .terminator(Terminator::CRLF)
-        .from_writer(Vec::new(alloc));
-    if writer.write_fields(fields).is_err() {
-        return Err(Memory);
-    }
-    match writer.into_inner() {
-        Ok(record) => Ok(record),
-        Err(_) => Err(Memory),
-    }
-}
-
-/// A record of fields, behind others.
-fn put_record(alloc: Global, out: &mut Vec<u8>, fields: &[&[u8]]) -> Result<(), Memory>
-    ensures { Puts result out.old out.new (row_text model.crlf_writer (map (λ f. f.now) fields.now)) }
-{
-    let record = record_of(alloc, fields)?;
-    out.extend_from_slice(&record)
-}
 
 /// What the fields are.
 #[tactic(auto, unfolding(crate::specs::Sheets::heading))]

@@ -1,12 +1,12 @@
 -- The differences of a point to another, by pairs of runs.
-use Rattle.std.specs.Prelude.{◌≡◌, ℕ, ◌+◌, ◌≤◌, ◌<◌, ◌^◌, nat_lt, nat_le, List, [], ◌∷◌, ◌++◌, length, codes, ℤ, unsigned_abs, Bool, false}
+use Rattle.std.specs.Prelude.{◌≡◌, ℕ, ◌+◌, ◌≤◌, ◌<◌, ◌^◌, nat_lt, nat_le, List, [], ◌∷◌, ◌++◌, length, codes, ℤ, unsigned_abs, Bool}
 use Rattle.std.specs.Prelude.{if◌then◌else◌, Option, Some, None, MatchBool}
 use Rattle.std.specs.List.{All}
 use Rattle.gw_statistics.specs.Pairs.{differences}
-use Rattle.gw_statistics.specs.Telling.{told_half_width}
+use Rattle.gw_statistics.specs.Telling.{told, told_half_width}
 use Rattle.gw_statistics.specs.declared.summary.Summary.{Summary}
-use Rattle.gw_comparison.specs.Amounts.{amount, thousandths}
 use Rattle.gw_writing.specs.Columns.{left, right}
+use Rattle.gw_writing.specs.Decimals.{with_point}
 use Rattle.gw_comparison.specs.Points.{column_of, is_told, values_in, IsAccount}
 use Rattle.gw_comparison.specs.declared.accounts.Account.{Account}
 use Rattle.gw_comparison.specs.declared.point.Column.{Column}
@@ -22,7 +22,7 @@ verdict_of mean half_width = if differs mean half_width then codes "  differs\n"
 
 -- the half-width of a difference, if it is known, and what is said
 abbrev pub known_confidence : ℤ → ℕ → List ℕ
-known_confidence mean half_width = right 16 (thousandths false (told_half_width mean half_width)) ++ verdict_of mean half_width
+known_confidence mean half_width = right 16 (with_point 3 (told_half_width mean half_width)) ++ verdict_of mean half_width
 
 abbrev pub no_confidence : List ℕ
 no_confidence = right 16 (codes "-") ++ codes "\n"
@@ -34,12 +34,12 @@ confidence mean (Some half_width) = if nat_le half_width (2 ^ 120) then known_co
 -- the numbers of a row
 unfoldable pub summary_text : Option Summary → List ℕ
 summary_text None = right 16 (codes "-") ++ right 16 (codes "-") ++ codes "\n"
-summary_text (Some summary) = right 16 (amount summary.mean) ++ confidence summary.mean summary.half_width
+summary_text (Some summary) = right 16 (told summary.mean) ++ confidence summary.mean summary.half_width
 
 -- the mean of what values say
 unfoldable pub mean_text : Option Summary → List ℕ
 mean_text None = right 16 (codes "-")
-mean_text (Some summary) = right 16 (amount summary.mean)
+mean_text (Some summary) = right 16 (told summary.mean)
 
 -- the mean of a column
 pub record AddsMean (column : Column) (old new : List ℕ) : Type 0 where

@@ -1,7 +1,6 @@
 -- WHAT RUNS SAY
 pub mod Points
 -- HOW IT IS TOLD
-pub mod Amounts
 pub mod Differences
 pub mod Sheets
 -- PICTURES

@@ -1,20 +1,16 @@
 -- A picture of a figure over points. Places are in tenths of pixels: the plot lies from 80 to 700 from the left, and from 70 to 350 from the top.
 use Rattle.std.specs.Prelude.{ℕ, ◌+◌, ◌-◌, ◌*◌, ◌/◌, nat_lt, List, [], ◌++◌, codes, ℤ, pos, neg_ℤ, Bool, if◌then◌else◌}
-use Rattle.gw_drawing.specs.Text.{tenths, text_at, upto}
-use Rattle.gw_comparison.specs.Amounts.{amount}
+use Rattle.gw_drawing.specs.Text.{tenths, text_at, level_line, upto}
+use Rattle.gw_statistics.specs.Telling.{told}
 use Rattle.gw_comparison.specs.Frames.{place_of, reach_of}
 use Rattle.gw_comparison.specs.declared.axis.Frame.{Frame}
 use Rattle.gw_comparison.specs.declared.marks.Mark.{Mark}
 
 -- THE AXIS
 
--- a level line at a place
-unfoldable pub level_line : ℕ → List ℕ
-level_line y = codes "<path d=\"M80.0 " ++ tenths y ++ codes "H700.0\" stroke=\"#ddd\"/>\n"
-
 -- a number as a text
 unfoldable pub number_text : ℕ → ℕ → List ℕ → ℤ → List ℕ
-number_text x y how number = text_at x y how ++ amount number ++ codes "</text>\n"
+number_text x y how number = text_at x y how ++ told number ++ codes "</text>\n"
 
 -- the level line at a number, and the number
 abbrev pub level : Frame → ℤ → List ℕ

@@ -1,6 +1,7 @@
 -- What runs of a point say.
 use Rattle.std.specs.Prelude.{◌≡◌, ℕ, List, [], ◌∷◌, length, ℤ, Bool, ◌||◌, if◌then◌else◌, Option, Some, None}
 use Rattle.std.specs.Str.{bytes_eq}
+use Rattle.gw_statistics.specs.Pairs.{with_value}
 use Rattle.gw_statistics.specs.Summaries.{IsSummary}
 use Rattle.gw_comparison.specs.declared.point.Column.{Column}
 use Rattle.gw_comparison.specs.declared.accounts.Account.{Account}
@@ -17,11 +18,6 @@ column_of name (column ∷ columns) = if is_named name column then Some column e
 -- a column is told where all are, or where it is a main one
 abbrev pub is_told : Bool → Column → Bool
 is_told all column = all || column.is_main
-
--- a value before others, if it is there
-abbrev pub with_value : Option ℤ → List ℤ → List ℤ
-with_value None values = values
-with_value (Some value) values = value ∷ values
 
 -- the values that are there
 unfoldable pub values_in : List (Option ℤ) → List ℤ

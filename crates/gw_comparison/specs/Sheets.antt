@@ -1,21 +1,14 @@
 -- Points as CSV: a record for each figure of each point, and then for each difference.
 use Rattle.std.specs.Prelude.{◌≡◌, ℕ, ◌^◌, nat_le, List, [], ◌∷◌, ◌++◌, codes, ℤ, pos, Bool, if◌then◌else◌, Option, Some, None, MatchBool}
 use Rattle.std.specs.Fmt.{decimal}
-use Rattle.csv.specs.Writing.{row_text, default_writer, with_terminator}
-use Rattle.csv.specs.declared.parser.Terminator.TheVariants.{CRLF}
 use Rattle.gw_statistics.specs.Pairs.{differences}
 use Rattle.gw_statistics.specs.declared.summary.Summary.{Summary}
-use Rattle.gw_comparison.specs.Amounts.{millionths}
+use Rattle.gw_writing.specs.Decimals.{signed_with_point}
+use Rattle.gw_records.specs.Records.{record_text}
 use Rattle.gw_comparison.specs.Points.{column_of, is_told, values_in, IsAccount}
 use Rattle.gw_comparison.specs.declared.accounts.Account.{Account}
 use Rattle.gw_comparison.specs.declared.point.Column.{Column}
 use Rattle.gw_comparison.specs.declared.point.Point.{Point}
-
--- RECORDS
-
--- a record of fields, with commas between, and a carriage return and a line feed behind it
-unfoldable pub record_text : List (List ℕ) → List ℕ
-record_text fields = row_text (with_terminator default_writer CRLF) fields
 
 -- what is added for each of several, one behind the other
 unfoldable pub AddsEach : {X : Type 0} → (X → List ℕ → List ℕ → Type 0) → List X → List ℕ → List ℕ → Type 0
@@ -32,13 +25,14 @@ head_fields =
 -- a half-width, if it is known
 abbrev pub half_width_field : Option ℕ → List ℕ
 half_width_field None = []
-half_width_field (Some half_width) = if nat_le half_width (2 ^ 120) then millionths (pos half_width) else []
+half_width_field (Some half_width) = if nat_le half_width (2 ^ 120) then signed_with_point 6 (pos half_width) else []
 
 -- the fields of a figure with so many values, by what these say
 abbrev pub account_fields : List ℕ → List ℕ → ℕ → Option Summary → List (List ℕ)
 account_fields point figure count None = point ∷ figure ∷ codes "0" ∷ [] ∷ [] ∷ [] ∷ [] ∷ []
 account_fields point figure count (Some s) =
-    point ∷ figure ∷ decimal count ∷ millionths s.mean ∷ half_width_field s.half_width ∷ millionths s.least ∷ millionths s.greatest ∷ []
+    point ∷ figure ∷ decimal count ∷ signed_with_point 6 s.mean ∷ half_width_field s.half_width ∷ signed_with_point 6 s.least
+    ∷ signed_with_point 6 s.greatest ∷ []
 
 -- the record of a figure whose values this summary is of
 abbrev pub summary_record : List ℕ → List ℕ → ℕ → Summary → List ℕ

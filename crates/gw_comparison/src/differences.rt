@@ -6,11 +6,10 @@ ghost use Rattle.gw_comparison.specs.Differences as model;
 ghost use Rattle.gw_comparison.specs.Points.{IsAccount};
 
 use crate::accounts::{Account, account_in, account_of, column_of, is_told};
-use crate::amounts::{put_amount, put_thousandths};
 use crate::point::{Column, Point};
 use gw_object::Memory;
-use gw_statistics::{Summary, differences, told_half_width};
-use gw_writing::{put_left, put_right};
+use gw_statistics::{Summary, differences, put_told, told_half_width};
+use gw_writing::{put_decimal, put_left, put_right};
 use std::alloc::Global;
 
 /// How wide a name is.
@@ -64,7 +63,7 @@ fn put_confidence(
     match half_width {
         Some(half_width) if half_width <= 1 << 120 => {
             let mut text = Vec::new(alloc);
-            put_thousandths(&mut text, false, told_half_width(*mean, half_width))?;
+            put_decimal(&mut text, 3, told_half_width(*mean, half_width))?;
             put_right(out, NUMBER, &text)?;
             out.extend_from_slice(verdict_of(mean, half_width).as_bytes())
         }
@@ -83,7 +82,7 @@ fn put_summary(alloc: Global, out: &mut Vec<u8>, summary: &Option<Summary>) -> R
     match summary {
         Some(summary) => {
             let mut text = Vec::new(alloc);
-            put_amount(&mut text, &summary.mean)?;
+            put_told(&mut text, &summary.mean)?;
             put_right(out, NUMBER, &text)?;
             put_confidence(alloc, out, &summary.mean, summary.half_width)
         }
@@ -103,7 +102,7 @@ fn put_mean(alloc: Global, out: &mut Vec<u8>, summary: &Option<Summary>) -> Resu
     match summary {
         Some(summary) => {
             let mut text = Vec::new(alloc);
-            put_amount(&mut text, &summary.mean)?;
+            put_told(&mut text, &summary.mean)?;
             put_right(out, NUMBER, &text)
         }
         None => put_right(out, NUMBER, b"-"),

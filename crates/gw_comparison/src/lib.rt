@@ -6,7 +6,6 @@
 #![tactic(auto)]
 
 mod accounts;
-mod amounts;
 mod axis;
 mod differences;
 mod frame;

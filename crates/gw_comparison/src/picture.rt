@@ -4,14 +4,14 @@ ghost use Rattle.std.specs.Prelude.{◌≡◌, ◌≤◌, ◌<◌, ◌++◌, len
 ghost use Rattle.gw_drawing.specs.Text.{upto};
 ghost use Rattle.gw_comparison.specs.Pictures as model;
 
-use crate::amounts::put_amount;
 use crate::axis::Frame;
 use crate::frame::{frame_of, place_of, reach_of};
 use crate::marks::{Mark, marks_of};
 use crate::point::Point;
 use gw_drawing::numbers::part_of_length;
-use gw_drawing::text::{put_escaped, put_grouped, put_tenths, put_text_at};
+use gw_drawing::text::{put_escaped, put_grouped, put_level_line, put_tenths, put_text_at};
 use gw_object::Memory;
+use gw_statistics::put_told;
 use gw_writing::put;
 use std::alloc::Global;
 
@@ -38,15 +38,6 @@ fn put_title(out: &mut Vec<u8>, figure: &[u8], runs: usize) -> Result<(), Memory
     )
 }
 
-/// A level line at a place.
-fn put_level_line(out: &mut Vec<u8>, y: u64) -> Result<(), Memory>
-    ensures { OnOk result (out.new.items ≡ out.old.items ++ model.level_line y) }
-{
-    put(out, "<path d=\"M80.0 ")?;
-    put_tenths(out, y)?;
-    put(out, "H700.0\" stroke=\"#ddd\"/>\n")
-}
-
 /// A number of millionths as a text.
 fn put_number_text(
     out: &mut Vec<u8>,
@@ -59,7 +50,7 @@ fn put_number_text(
         (out.new.items ≡ out.old.items ++ model.number_text x y how.now number.now) }
 {
     put_text_at(out, x, y, how)?;
-    put_amount(out, number)?;
+    put_told(out, number)?;
     put(out, "</text>\n")
 }
 

@@ -1,49 +1,20 @@
 //! Points as CSV.
 
-ghost use Rattle.std.specs.Prelude.{◌≡◌, ◌++◌, map, IfOk, OnOk};
+ghost use Rattle.std.specs.Prelude.{◌≡◌, ◌++◌, IfOk, OnOk};
 ghost use Rattle.std.specs.Fmt.{decimal};
-ghost use Rattle.gw_comparison.specs.Amounts.{millionths};
+ghost use Rattle.gw_writing.specs.Decimals.{signed_with_point};
 ghost use Rattle.gw_comparison.specs.Sheets as model;
-ghost use Rattle.gw_comparison.specs.Sheets.{AddsEach, AddsPairRecords, account_record, head_fields, record_text, summary_record};
+ghost use Rattle.gw_comparison.specs.Sheets.{AddsEach, AddsPairRecords, account_record, head_fields, summary_record};
+ghost use Rattle.gw_records.specs.Records.{record_text};
 
 use crate::accounts::{Account, account_in, column_of, is_told};
-use crate::amounts::put_millionths;
 use crate::differences::account_between;
 use crate::point::{Column, Point};
-use csv::{Terminator, WriterBuilder};
 use gw_object::Memory;
+use gw_records::put_record;
 use gw_statistics::Summary;
-use gw_writing::put_number;
+use gw_writing::{put_number, put_signed_decimal};
 use std::alloc::Global;
-
-/// A record of fields, with its end.
-#[tactic(auto, unfolding(crate::specs::Sheets::record_text))]
-fn record_of(alloc: Global, fields: &[&[u8]]) -> Result<Vec<u8>, Memory>
-    ensures { IfOk result (λ made. made.items ≡ record_text (map (λ f. f.now) fields.now)) }
-{
-    let mut writer = WriterBuilder::new()
-        .terminator(Terminator::CRLF)
-        .from_writer(Vec::new(alloc));
-    match writer.write_fields(fields) {
-        Ok(()) => match writer.into_inner() {
-            Ok(record) => Ok(record),
-            Err(_) => Err(Memory),
-        },
-        Err(_) => {
-            drop(writer);
-            Err(Memory)
-        }
-    }
-}
-
-/// A record of fields, behind others.
-fn put_record(alloc: Global, out: &mut Vec<u8>, fields: &[&[u8]]) -> Result<(), Memory>
-    ensures { OnOk result
-        (out.new.items ≡ out.old.items ++ record_text (map (λ f. f.now) fields.now)) }
-{
-    let record = record_of(alloc, fields)?;
-    out.extend_from_slice(&record)
-}
 
 /// What the fields are.
 fn put_head(alloc: Global, out: &mut Vec<u8>) -> Result<(), Memory>
@@ -66,10 +37,10 @@ fn put_head(alloc: Global, out: &mut Vec<u8>) -> Result<(), Memory>
 
 /// A number of millionths as a field.
 fn field_of(alloc: Global, number: &i128) -> Result<Vec<u8>, Memory>
-    ensures { IfOk result (λ field. field.items ≡ millionths number.now) }
+    ensures { IfOk result (λ field. field.items ≡ signed_with_point 6 number.now) }
 {
     let mut field = Vec::new(alloc);
-    put_millionths(&mut field, number)?;
+    put_signed_decimal(&mut field, 6, *number)?;
     Ok(field)
 }
 

@@ -5,7 +5,7 @@ ghost use Rattle.std.specs.Fmt.{decimal};
 ghost use Rattle.gw_drawing.specs.Text as model;
 
 use gw_object::Memory;
-use gw_writing::{put, put_number};
+use gw_writing::{put, put_decimal, sign_of};
 use itoa::Buffer;
 
 /// A byte as it stands in XML.
@@ -39,8 +39,7 @@ pub fn put_escaped(out: &mut Vec<u8>, text: &[u8]) -> Result<(), Memory>
 pub fn put_tenths(out: &mut Vec<u8>, tenths: u64) -> Result<(), Memory>
     ensures { OnOk result (out.new.items ≡ out.old.items ++ model.tenths tenths) }
 {
-    put_number(out, "", tenths / 10)?;
-    put_number(out, ".", tenths % 10)
+    put_decimal(out, 1, u128::from(tenths))
 }
 
 /// A digit that so many follow, with a comma before each three of them.
@@ -77,7 +76,7 @@ pub fn put_grouped(out: &mut Vec<u8>, number: u128) -> Result<(), Memory>
 pub fn put_signed(out: &mut Vec<u8>, number: i128) -> Result<(), Memory>
     ensures { OnOk result (out.new.items ≡ out.old.items ++ model.signed_grouped number) }
 {
-    put(out, if number < 0 { "-" } else { "" })?;
+    put(out, sign_of(number < 0))?;
     put_grouped(out, number.unsigned_abs())
 }
 
@@ -92,6 +91,15 @@ pub fn put_text_at(out: &mut Vec<u8>, x: u64, y: u64, how: &str) -> Result<(), M
     put(out, "\"")?;
     put(out, how)?;
     put(out, ">")
+}
+
+/// A level line from the left end of a plot to its right end.
+pub fn put_level_line(out: &mut Vec<u8>, y: u64) -> Result<(), Memory>
+    ensures { OnOk result (out.new.items ≡ out.old.items ++ model.level_line y) }
+{
+    put(out, "<path d=\"M80.0 ")?;
+    put_tenths(out, y)?;
+    put(out, "H700.0\" stroke=\"#ddd\"/>\n")
 }
 
 /// A number as a text.

@@ -1,6 +1,8 @@
 -- The refusal of a line, as it is printed.
 use Rattle.std.specs.Prelude.{◌≡◌, ℕ, List, ◌++◌, codes}
 use Rattle.std.specs.Fmt.{decimal}
+use Rattle.gw_answers.specs.Reasons.{refusal_with_reason}
+use Rattle.gw_answers.specs.declared.codes.TheConstants.{EXPERIMENT}
 use Rattle.gw_experiment.specs.declared.fault.ExperimentFault.{ExperimentFault}
 use Rattle.gw_experiment.specs.declared.fault.ExperimentFault.TheVariants as fault
 use Rattle.gw_parameters.specs.declared.fault.NoAnswer.{NoAnswer}
@@ -16,17 +18,9 @@ reason_of fault.Number = codes "count and from have one number each, below 2^64"
 reason_of fault.Twice = codes "another line says this too"
 reason_of fault.None = codes "no line is *! runs, with how many runs each point has"
 
--- the code and its name, and the line's number
-unfoldable pub head : ℕ → List ℕ
-head line = codes "refused 85 Experiment at line " ++ decimal line
-
--- why, on a line of its own
-unfoldable pub reason : ExperimentFault → List ℕ
-reason fault = codes "\nwrong: " ++ reason_of fault ++ codes "\n"
-
--- the refusal of a line by its number, from 1: both
+-- the refusal of a line by its number, from 1: the code and its name, the number, and why
 abbrev pub refusal_text : ℕ → ExperimentFault → List ℕ
-refusal_text line fault = head line ++ reason fault
+refusal_text line fault = refusal_with_reason EXPERIMENT (codes "line " ++ decimal line) (reason_of fault)
 
 -- there is no experiment for this reason, or for want of memory
 abbrev pub Tells : ℕ → ExperimentFault → NoAnswer → Type 0

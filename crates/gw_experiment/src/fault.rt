@@ -1,15 +1,14 @@
 //! Why a model's comment lines ask for no experiment.
 
-ghost use Rattle.std.specs.Prelude.{◌≡◌, ◌++◌, OnOk, IfOk};
+ghost use Rattle.std.specs.Prelude.{◌≡◌, IfOk};
 ghost use Rattle.gw_experiment.specs.Refusals as model;
 
+use gw_answers::codes::EXPERIMENT;
+use gw_answers::refusal_with_reason;
 use gw_object::Memory;
 use gw_parameters::NoAnswer;
-use gw_writing::{put, put_number};
+use gw_writing::put_number;
 use std::alloc::Global;
-
-/// The code of the refusal of an experiment (docs/refusals.md).
-pub const EXPERIMENT: u16 = 85;
 
 /// Why a line is refused.
 #[derive(Clone, Copy, PartialEq, Eq)]
@@ -46,32 +45,13 @@ fn reason_of(fault: ExperimentFault) -> &'static str
     }
 }
 
-/// The code and its name, and the number of the line.
-#[tactic(auto, unfolding(crate::specs::Refusals::head))]
-fn put_head(out: &mut Vec<u8>, line: usize) -> Result<(), Memory>
-    ensures { OnOk result (out.new.items ≡ out.old.items ++ model.head line) }
-{
-    put_number(out, "refused 85 Experiment at line ", line)
-}
-
-/// Why, on a line of its own.
-#[tactic(auto, unfolding(crate::specs::Refusals::reason))]
-fn put_reason(out: &mut Vec<u8>, fault: ExperimentFault) -> Result<(), Memory>
-    ensures { OnOk result (out.new.items ≡ out.old.items ++ model.reason fault) }
-{
-    put(out, "\nwrong: ")?;
-    put(out, reason_of(fault))?;
-    put(out, "\n")
-}
-
 /// The refusal of a line by its number, from 1, as it is printed: its code and name, the number, and why.
 pub fn refusal_of(alloc: Global, line: usize, fault: ExperimentFault) -> Result<Vec<u8>, Memory>
     ensures { IfOk result (λ text. text.items ≡ model.refusal_text line fault) }
 {
-    let mut text = Vec::new(alloc);
-    put_head(&mut text, line)?;
-    put_reason(&mut text, fault)?;
-    Ok(text)
+    let mut subject = Vec::new(alloc);
+    put_number(&mut subject, "line ", line)?;
+    refusal_with_reason(alloc, EXPERIMENT, &subject, reason_of(fault).as_bytes())
 }
 
 /// The same, as the reason why there is no experiment; or want of memory.

@@ -15,5 +15,5 @@ mod steps;
 mod words;
 
 pub use experiment::{Experiment, experiment_in};
-pub use fault::{EXPERIMENT, ExperimentFault, refusal_of};
+pub use fault::{ExperimentFault, refusal_of};
 pub use shares::{Share, runs_of_point};

@@ -21,6 +21,7 @@ mod window;
 pub use figure::Figure;
 pub use labels::figures;
 pub use model_values::values;
+pub use percentiles::upper_limit;
 pub use run::{Overdraw, Run};
-pub use trends::{changes, difference};
+pub use trends::{changes, difference, value_at};
 pub use window::Window;

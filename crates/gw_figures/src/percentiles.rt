@@ -32,7 +32,7 @@ fn distance(table: &Table, class: u64) -> u128
 }
 
 /// The upper limit of a class of a table, by its number.
-pub(crate) fn upper_limit(table: &Table, class: u64) -> i128
+pub fn upper_limit(table: &Table, class: u64) -> i128
     ensures value { result ≡ model.upper_limit table.now class }
     ensures range { unsigned_abs result ≤ 2 ^ 97 }
 {

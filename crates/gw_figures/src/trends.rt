@@ -26,7 +26,7 @@ pub fn difference(before: Option<i128>, after: Option<i128>) -> Option<i128>
 }
 
 /// The value at a place, if there is one.
-fn value_at(values: &[Option<i128>], place: usize) -> Option<i128>
+pub fn value_at(values: &[Option<i128>], place: usize) -> Option<i128>
     ensures { result ≡ model.value_at place values.now }
 {
     match values.get(place) {

@@ -2,6 +2,8 @@
 use Rattle.std.specs.Prelude.{◌≡◌, ℕ, List, [], ◌++◌, codes, Option, Some, None, Result, MatchResult, Vec}
 use Rattle.std.specs.Fmt.{decimal}
 use Rattle.std.specs.Global.{Global}
+use Rattle.gw_answers.specs.Reasons.{refusal_with_reason}
+use Rattle.gw_answers.specs.declared.codes.TheConstants.{PARAMETER}
 use Rattle.gw_parameters.specs.declared.fault.NoAnswer.{NoAnswer}
 use Rattle.gw_parameters.specs.declared.fault.NoAnswer.TheVariants.{Refused, Memory}
 use Rattle.gw_parameters.specs.declared.fault.ParameterFault.{ParameterFault}
@@ -31,17 +33,13 @@ abbrev pub place_of : Option ℕ → List ℕ
 place_of None = []
 place_of (Some line) = codes " line " ++ decimal line
 
--- the code and its name, the name of the parameter, and the line at fault
-unfoldable pub head : List ℕ → ParameterFault → List ℕ
-head name fault = codes "refused 83 Parameter at " ++ name ++ place_of (line_of fault)
+-- what is refused: the name of the parameter, and the line at fault
+abbrev pub subject : List ℕ → ParameterFault → List ℕ
+subject name fault = name ++ place_of (line_of fault)
 
--- why, on a line of its own
-unfoldable pub reason : ParameterFault → List ℕ
-reason fault = codes "\nwrong: " ++ reason_of fault ++ codes "\n"
-
--- both
+-- the refusal: the code and its name, what is refused, and why
 abbrev pub refusal_text : List ℕ → ParameterFault → List ℕ
-refusal_text name fault = head name fault ++ reason fault
+refusal_text name fault = refusal_with_reason PARAMETER (subject name fault) (reason_of fault)
 
 -- this text, or want of memory
 abbrev pub Makes : List ℕ → Result (Vec ℕ Global) NoAnswer → Type 0

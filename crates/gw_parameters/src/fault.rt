@@ -3,12 +3,11 @@
 ghost use Rattle.std.specs.Prelude.{◌≡◌, ◌++◌, OnOk, IfOk};
 ghost use Rattle.gw_parameters.specs.Refusals as model;
 
+use gw_answers::codes::PARAMETER;
+use gw_answers::refusal_with_reason;
 use gw_object::Memory;
-use gw_writing::{put, put_number};
+use gw_writing::put_number;
 use std::alloc::Global;
-
-/// The code of the refusal of a parameter (docs/refusals.md).
-pub const PARAMETER: u16 = 83;
 
 /// Why a parameter is refused.
 #[derive(Clone, Copy, PartialEq, Eq)]
@@ -75,32 +74,12 @@ fn put_line(out: &mut Vec<u8>, line: Option<usize>) -> Result<(), Memory>
     }
 }
 
-/// The code and its name, and what is refused.
-#[tactic(auto, unfolding(crate::specs::Refusals::head))]
-fn put_head(out: &mut Vec<u8>, name: &[u8], fault: ParameterFault) -> Result<(), Memory>
-    ensures { OnOk result (out.new.items ≡ out.old.items ++ model.head name.now fault) }
+/// What is refused: a name, and the line at fault, if there is one.
+fn put_subject(out: &mut Vec<u8>, name: &[u8], fault: ParameterFault) -> Result<(), Memory>
+    ensures { OnOk result (out.new.items ≡ out.old.items ++ model.subject name.now fault) }
 {
-    put(out, "refused 83 Parameter at ")?;
     out.extend_from_slice(name)?;
     put_line(out, line_of(fault))
-}
-
-/// Why, on a line of its own.
-#[tactic(auto, unfolding(crate::specs::Refusals::reason))]
-fn put_reason(out: &mut Vec<u8>, fault: ParameterFault) -> Result<(), Memory>
-    ensures { OnOk result (out.new.items ≡ out.old.items ++ model.reason fault) }
-{
-    put(out, "\nwrong: ")?;
-    put(out, reason_of(fault))?;
-    put(out, "\n")
-}
-
-/// The refusal of a name, behind what is there.
-fn put_refusal(out: &mut Vec<u8>, name: &[u8], fault: ParameterFault) -> Result<(), Memory>
-    ensures { OnOk result (out.new.items ≡ out.old.items ++ model.refusal_text name.now fault) }
-{
-    put_head(out, name, fault)?;
-    put_reason(out, fault)
 }
 
 /// The refusal of a name, as it is printed: its code and name, the name of the parameter, the line at fault if there is one,
@@ -108,9 +87,9 @@ fn put_refusal(out: &mut Vec<u8>, name: &[u8], fault: ParameterFault) -> Result<
 pub fn refusal_of(alloc: Global, name: &[u8], fault: ParameterFault) -> Result<Vec<u8>, Memory>
     ensures { IfOk result (λ text. text.items ≡ model.refusal_text name.now fault) }
 {
-    let mut text = Vec::new(alloc);
-    put_refusal(&mut text, name, fault)?;
-    Ok(text)
+    let mut subject = Vec::new(alloc);
+    put_subject(&mut subject, name, fault)?;
+    refusal_with_reason(alloc, PARAMETER, &subject, reason_of(fault).as_bytes())
 }
 
 /// The same, as the reason why there is no point; or want of memory.

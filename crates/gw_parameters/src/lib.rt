@@ -11,7 +11,7 @@ mod parameters;
 mod points;
 mod texts;
 
-pub use fault::{NoAnswer, PARAMETER, ParameterFault, refusal_of};
+pub use fault::{NoAnswer, ParameterFault, refusal_of};
 pub use parameters::{Parameter, parameter_in};
 pub use points::{MOST_POINTS, Points, points_of};
 pub use texts::text_with;

@@ -1,5 +1,5 @@
 -- The text of a report: one line per item, words separated by one space, each ended by LF.
-use Rattle.std.specs.Prelude.{◌≡◌, ℕ, ◌+◌, ◌/◌, ◌%◌, List, [], ◌∷◌, ◌++◌, codes, unsigned_abs}
+use Rattle.std.specs.Prelude.{◌≡◌, ℕ, ◌+◌, List, [], ◌∷◌, ◌++◌, codes, unsigned_abs}
 use Rattle.std.specs.Fmt.{decimal, signed_decimal}
 use Rattle.std.specs.Int.{from_bool}
 use Rattle.std.specs.Option.{unwrap_or}
@@ -18,6 +18,7 @@ use Rattle.gw_scan.specs.declared.sim.Status.{Status}
 use Rattle.gw_scan.specs.declared.sim.Status.TheVariants.{Running, Ended}
 use Rattle.gw_step.specs.Job.{Job, Progress, Alone, IsFinal}
 use Rattle.gw_object.specs.declared.parts.Parts.{Parts}
+use Rattle.gw_writing.specs.Decimals.{behind_point}
 use Rattle.gw_report.specs.Figures.{Figures, block_at, entity_at, classes_at, figures_of}
 
 -- how a job stands: the name of its end, if one stands
@@ -55,9 +56,7 @@ block_lines f i (block ∷ rest) = block_line f i block ++ block_lines f (i + 1)
 
 -- an average: its whole part and the three digits of its thousandths
 abbrev pub average_text : Average → List ℕ
-average_text a =
-    decimal a.whole ++ codes "." ++ decimal (a.thousandths / 100) ++ decimal (a.thousandths / 10 % 10)
-    ++ decimal (a.thousandths % 10)
+average_text a = decimal a.whole ++ behind_point 3 a.thousandths
 
 -- an average of this whole part and so many thousandths
 abbrev pub quotient_text : ℕ → ℕ → List ℕ

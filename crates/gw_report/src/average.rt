@@ -7,7 +7,7 @@ ghost use Rattle.gw_entities.specs.Average.{average};
 
 use crate::figures::Figures;
 use gw_object::Memory;
-use gw_writing::put_number;
+use gw_writing::{put_number, put_places};
 
 /// The whole part of an average, and its thousandths.
 #[derive(Clone, Copy)]
@@ -41,9 +41,7 @@ fn put_quotient(out: &mut Vec<u8>, text: &str, quotient: Quotient) -> Result<(),
 {
     let thousandths = quotient.thousandths;
     put_number(out, text, quotient.whole)?;
-    put_number(out, ".", thousandths / 100)?;
-    put_number(out, "", thousandths / 10 % 10)?;
-    put_number(out, "", thousandths % 10)
+    put_places(out, 3, u128::from(thousandths))
 }
 
 /// A text, and after it the average over the clock of what sums up to this, with three digits of thousandths.

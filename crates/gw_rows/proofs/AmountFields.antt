@@ -10,10 +10,11 @@ use Rattle.std.proofs.lemmas.Fmt.{decimal_is_IsNumeral_wide}
 use Rattle.std.proofs.lemmas.List.{append-nil, take-replicate, nil_from_length}
 use Rattle.std.specs.Int.{w128}
 use Rattle.std.proofs.Math.Seq.{take-append-add}
-use Rattle.gw_comparison.specs.Amounts.{tail}
+use Rattle.gw_writing.specs.Decimals.{last_digits}
+use Rattle.gw_writing.proofs.Digits.{length_last}
 use Rattle.gw_rows.specs.Reading.{IsAmount}
-use Rattle.gw_rows.specs.Amounts.{parts_for, fraction, size_text, amount, amount_field}
-use Rattle.gw_rows.proofs.Decimals.{onto, onto_behind, onto_zeros, last_digits, length_last, number_of_last, decimal_of_last, number_of_decimal}
+use Rattle.gw_rows.specs.Amounts.{places_for, fraction, size_text, amount, amount_field}
+use Rattle.gw_rows.proofs.Decimals.{onto, onto_behind, onto_zeros, number_of_last, number_of_decimal}
 use Rattle.gw_rows.proofs.Decimals.{FailsAtDigits, each_digit, none_in_decimal, before_at, after_at, before_none, after_none}
 
 -- THE DIGITS BEHIND THE POINT
@@ -41,32 +42,32 @@ pub record IsFraction (m : ℕ) (text : List ℕ) : Type 0 where
   pub same : q * 10 ^ (6 - k) ≡ m
   pub text_is : text ≡ 46 ∷ last_digits k q
 
-with_parts : (m parts : ℕ) → 0 < m → parts_for m ≡ parts → fraction m ≡ 46 ∷ tail (parts + m / (1000000 / parts))
+with_places : (m k : ℕ) → 0 < m → places_for m ≡ k → fraction m ≡ 46 ∷ last_digits k (m / 10 ^ (6 - k))
 unfolding fraction
-with_parts m parts some is = rw (ne_eqb m 0 (λ none. omega (arith, none))) (ap (λ p. 46 ∷ tail (p + m / (1000000 / p))) is)
+with_places m k some is = rw (ne_eqb m 0 (λ none. omega (arith, none))) (ap (λ p. 46 ∷ last_digits p (m / 10 ^ (6 - p))) is)
 
-by_parts : (m k q : ℕ) → 0 < m → k ≤ 6 → q < 10 ^ k → q * 10 ^ (6 - k) ≡ m → m / (1000000 / 10 ^ k) ≡ q → parts_for m ≡ 10 ^ k → IsFraction m (fraction m)
-by_parts m k q some few below same is parts = record {
+by_places : (m k q : ℕ) → 0 < m → k ≤ 6 → q < 10 ^ k → q * 10 ^ (6 - k) ≡ m → m / 10 ^ (6 - k) ≡ q → places_for m ≡ k → IsFraction m (fraction m)
+by_places m k q some few below same is places = record {
   k = k;
   q = q;
   few = few;
   below = below;
   same = same;
-  text_is = with_parts m (10 ^ k) some parts ∙ ap (λ n. 46 ∷ tail (10 ^ k + n)) is ∙ ap (λ ds. 46 ∷ drop 1 ds) (decimal_of_last k q (omega arith) below);
+  text_is = with_places m k some places ∙ ap (λ n. 46 ∷ last_digits k n) is;
 }
 
 pub fraction_is : (m : ℕ) → 0 < m → m < 1000000 → IsFraction m (fraction m)
 fraction_is m some below = elim (cases_Bool (m % 100000 == 0)) [
-  | inl a ↦ by_parts m 1 (m / 100000) some (lit≤ tt) (omega arith) (omega (arith, eqb-true _ _ a)) refl (rw a refl)
+  | inl a ↦ by_places m 1 (m / 100000) some (lit≤ tt) (omega arith) (omega (arith, eqb-true _ _ a)) refl (rw a refl)
   | inr a ↦ elim (cases_Bool (m % 10000 == 0)) [
-    | inl b ↦ by_parts m 2 (m / 10000) some (lit≤ tt) (omega arith) (omega (arith, eqb-true _ _ b)) refl (rw (a, b) refl)
+    | inl b ↦ by_places m 2 (m / 10000) some (lit≤ tt) (omega arith) (omega (arith, eqb-true _ _ b)) refl (rw (a, b) refl)
     | inr b ↦ elim (cases_Bool (m % 1000 == 0)) [
-      | inl c ↦ by_parts m 3 (m / 1000) some (lit≤ tt) (omega arith) (omega (arith, eqb-true _ _ c)) refl (rw (a, b, c) refl)
+      | inl c ↦ by_places m 3 (m / 1000) some (lit≤ tt) (omega arith) (omega (arith, eqb-true _ _ c)) refl (rw (a, b, c) refl)
       | inr c ↦ elim (cases_Bool (m % 100 == 0)) [
-        | inl d ↦ by_parts m 4 (m / 100) some (lit≤ tt) (omega arith) (omega (arith, eqb-true _ _ d)) refl (rw (a, b, c, d) refl)
+        | inl d ↦ by_places m 4 (m / 100) some (lit≤ tt) (omega arith) (omega (arith, eqb-true _ _ d)) refl (rw (a, b, c, d) refl)
         | inr d ↦ elim (cases_Bool (m % 10 == 0)) [
-          | inl e ↦ by_parts m 5 (m / 10) some (lit≤ tt) (omega arith) (omega (arith, eqb-true _ _ e)) refl (rw (a, b, c, d, e) refl)
-          | inr e ↦ by_parts m 6 m some (lit≤ tt) (omega arith) (omega arith) (omega arith) (rw (a, b, c, d, e) refl)
+          | inl e ↦ by_places m 5 (m / 10) some (lit≤ tt) (omega arith) (omega (arith, eqb-true _ _ e)) refl (rw (a, b, c, d, e) refl)
+          | inr e ↦ by_places m 6 m some (lit≤ tt) (omega arith) (omega arith) (omega arith) (rw (a, b, c, d, e) refl)
         ]
       ]
     ]

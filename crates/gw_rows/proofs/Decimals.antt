@@ -10,7 +10,8 @@ use Rattle.std.proofs.lemmas.List.{get_or_past, length_push, drop_at, drop_all, 
 use Rattle.std.proofs.Math.Seq.{take-append_seam}
 use Rattle.std.specs.Fmt.{decimal}
 use Rattle.std.specs.Str.Parse.{AllDigits}
-use Rattle.std.proofs.lemmas.Fmt.{decimal_is_IsNumeral_wide, decimal_by_steps_wide, decimal_digit, decimal_step_wide}
+use Rattle.gw_writing.specs.Decimals.{last_digits}
+use Rattle.std.proofs.lemmas.Fmt.{decimal_is_IsNumeral_wide, decimal_by_steps_wide}
 use Rattle.std.proofs.lemmas.Str.Parse.{IsNumeralModel, numerals_by_fold, tells_digits}
 
 -- the number that digits make behind those of a number
@@ -29,35 +30,17 @@ pub onto_append : (n : ℕ) (xs : List ℕ) (c : ℕ) → onto n (xs ++ c ∷ []
 onto_append n [] c = refl
 onto_append n (x ∷ xs) c = onto_append (n * 10 + (x - 48)) xs c
 
--- so many last digits of a number
-abbrev pub last_digits : ℕ → ℕ → List ℕ
-last_digits zero q = []
-last_digits (suc k) q = last_digits k (q / 10) ++ (48 + q % 10) ∷ []
-
-pub length_last : (k q : ℕ) → length (last_digits k q) ≡ k
-length_last zero q = refl
-length_last (suc k) q = omega (arith, length_push (last_digits k (q / 10)) (48 + q % 10), length_last k (q / 10))
-
 tenth : (k q : ℕ) → q < 10 ^ suc k → q / 10 < 10 ^ k
 tenth k q h = omega (arith, pow-suc 10 k)
 
 pub number_of_last : (k q : ℕ) → q < 10 ^ k → onto 0 (last_digits k q) ≡ q
+unfolding last_digits
 number_of_last zero q h = omega arith
 number_of_last (suc k) q h = onto_append 0 (last_digits k (q / 10)) (48 + q % 10) ∙ omega (arith, number_of_last k (q / 10) (tenth k q h))
 
--- the digits of a number behind a one
-pub decimal_of_last : (k q : ℕ) → k ≤ 20 → q < 10 ^ k → decimal (10 ^ k + q) ≡ 49 ∷ last_digits k q
-decimal_of_last zero q few h =
-    let none : 10 ^ 0 + q ≡ 1 = omega arith in ap decimal none ∙ decimal_digit 1 (lit< tt)
-decimal_of_last (suc k) q few h =
-    let p : 10 ^ suc k ≡ 10 ^ k * 10 = pow-suc 10 k in
-    let small : 10 ^ suc k ≤ 10 ^ 20 = pow-le-pow_right {n = 10} (lit< tt) few in
-    let front : (10 ^ suc k + q) / 10 ≡ 10 ^ k + q / 10 = omega arith in
-    let last : (10 ^ suc k + q) % 10 ≡ q % 10 = omega arith in
-    decimal_step_wide (10 ^ suc k + q) (omega (arith, one-le-pow k 10 (lit< tt))) (omega arith)
-    ∙ ap (λ n. decimal n ++ (48 + (10 ^ suc k + q) % 10) ∷ []) front
-    ∙ ap (λ d. decimal (10 ^ k + q / 10) ++ (48 + d) ∷ []) last
-    ∙ ap (λ ds. ds ++ (48 + q % 10) ∷ []) (decimal_of_last k (q / 10) (omega arith) (tenth k q h))
+-- so few places stand for numbers that a `u128` holds
+pub some_parts : (k : ℕ) → k ≤ 6 → (10 ^ k ≤ 10 ^ 6) × (0 < 10 ^ k)
+some_parts k few = (pow-le-pow_right {n = 10} (lit< tt) few, one-le-pow k 10 (lit< tt))
 
 pub onto_behind : (n : ℕ) (xs ys : List ℕ) → onto n (xs ++ ys) ≡ onto (onto n xs) ys
 onto_behind n [] ys = refl
@@ -100,6 +83,7 @@ none_in_decimal p fails n h =
     n h
 
 pub none_in_last : (p : ℕ → Bool) → FailsAtDigits p → (k q : ℕ) → list_any p (last_digits k q) ≡ false
+unfolding last_digits
 none_in_last p fails zero q = refl
 none_in_last p fails (suc k) q =
     any_append p (last_digits k (q / 10)) ((48 + q % 10) ∷ []) (none_in_last p fails k (q / 10))

@@ -3,56 +3,36 @@
 ghost use Rattle.std.specs.Prelude.{◌≡◌, ◌<◌, ◌≤◌, ◌+◌, ◌/◌, ◌%◌, ◌^◌, ◌==◌, ◌++◌, ℕ, ℤ, pos, negsuc, true, false, drop, slice_index, slice_index_or, FitsSigned, IfOk, OnOk};
 ghost use Rattle.std.specs.Int.{w128};
 ghost use Rattle.std.specs.Fmt.{decimal};
-ghost use Rattle.gw_comparison.specs.Amounts.{sign_of as sign, tail};
 ghost use Rattle.gw_rows.specs.Amounts as model;
 ghost use Rattle.gw_rows.specs.Reading.{IsAmount, ReadsAmount};
 
 use crate::parts::{behind_first, split_at_byte};
 use gw_object::Memory;
-use gw_writing::{put, put_number};
-use itoa::Buffer;
+use gw_writing::{put_number, put_places, sign_of};
 use std::alloc::Global;
 
-/// What a number has before its first digit.
-fn sign_of(is_negative: bool) -> &'static str
-    ensures { result.now ≡ sign is_negative }
-{
-    if is_negative { "-" } else { "" }
-}
-
-/// How many parts of 1 tell a number of millionths below 1 exactly: the least power of ten that does, from 10 on.
-fn parts_for(millionths: u128) -> u128
-    ensures value { result ≡ model.parts_for millionths }
-    ensures range { (10 ≤ result) × (result ≤ 1000000) }
+/// How many digits behind the point tell a number of millionths below 1 exactly: the fewest that do, from one on.
+fn places_for(millionths: u128) -> u32
+    ensures value { result ≡ model.places_for millionths }
+    ensures range { (1 ≤ result) × (result ≤ 6) }
 {
     if millionths % 100_000 == 0 {
-        10
+        1
     } else if millionths % 10_000 == 0 {
-        100
+        2
     } else if millionths % 1_000 == 0 {
-        1_000
+        3
     } else if millionths % 100 == 0 {
-        10_000
+        4
     } else if millionths % 10 == 0 {
-        100_000
+        5
     } else {
-        1_000_000
-    }
-}
-
-/// The digits of a number but the first.
-fn put_tail(out: &mut Vec<u8>, number: u128) -> Result<(), Memory>
-    ensures { OnOk result (out.new.items ≡ out.old.items ++ tail number) }
-{
-    let mut buffer = Buffer::new();
-    match buffer.format(number).as_bytes() {
-        [_, digits @ ..] => out.extend_from_slice(digits),
-        [] => Ok(()),
+        6
     }
 }
 
 /// The point and the digits behind it, of millionths below 1; nothing where there are none.
-#[tactic(auto, unfolding(crate::specs::Amounts::fraction))]
+#[tactic(auto, unfolding(crate::specs::Amounts::fraction), using(crate::proofs::Decimals::some_parts))]
 fn put_fraction(out: &mut Vec<u8>, millionths: u128) -> Result<(), Memory>
     requires { millionths < 1000000 }
     ensures { OnOk result (out.new.items ≡ out.old.items ++ model.fraction millionths) }
@@ -60,9 +40,8 @@ fn put_fraction(out: &mut Vec<u8>, millionths: u128) -> Result<(), Memory>
     if millionths == 0 {
         return Ok(());
     }
-    let parts = parts_for(millionths);
-    put(out, ".")?;
-    put_tail(out, parts + millionths / (1_000_000 / parts))
+    let places = places_for(millionths);
+    put_places(out, places, millionths / 10u128.pow(6 - places))
 }
 
 /// An amount of millionths, exactly: no zero ends what stands behind the point, and there is no point where nothing does.

@@ -5,9 +5,10 @@ ghost use Rattle.gw_rows.specs.Reading.{IsLine};
 ghost use Rattle.gw_rows.specs.Refusals as model;
 
 use crate::header::is_line;
-use crate::record::{copy_of, put_record};
+use crate::record::copy_of;
 use csv::{ByteRecord, ReaderBuilder};
 use gw_object::Memory;
+use gw_records::put_line;
 use std::alloc::Global;
 
 /// What a model is refused with.
@@ -77,7 +78,7 @@ fn put_row(alloc: Global, out: &mut Vec<u8>, digest: &[u8], text: &[u8]) -> Resu
     ensures { OnOk result (out.new.items ≡ out.old.items ++ model.refusal_row digest.now text.now) }
 {
     let field = in_one_line(alloc, text)?;
-    put_record(alloc, out, &[digest, &field])
+    put_line(alloc, out, &[digest, &field])
 }
 
 /// What a model of this digest is refused with as two lines, behind others: the names of the fields, and the row.

@@ -3,7 +3,6 @@
 ghost use Rattle.std.specs.Prelude.{◌≡◌, ◌<◌, ◌^◌, ◌++◌, ◌∷◌, [], map, true, IfOk, OnOk};
 ghost use Rattle.std.specs.List.{All};
 ghost use Rattle.gw_figures.specs.Labels.{label_of, labels};
-ghost use Rattle.gw_figures.specs.Trends.{value_at};
 ghost use Rattle.gw_rows.specs.Amounts.{amount_field as amount_text};
 ghost use Rattle.gw_rows.specs.Names.{has_trend as has_trend_of};
 ghost use Rattle.gw_rows.specs.Reading.{IsAmount, IsStreamInRange, MayBeAmounts, MayBeInRange};
@@ -16,7 +15,7 @@ use crate::header::has_trend;
 use crate::origin::Origin;
 use crate::overdraws::overdraws_field;
 use crate::record::{copy_of, put_owned};
-use gw_figures::{Figure, Run};
+use gw_figures::{Figure, Run, value_at};
 use gw_object::Memory;
 use itoa::{Buffer, Integer};
 use std::alloc::Global;
@@ -109,16 +108,6 @@ fn put_trend(
     Ok(())
 }
 
-/// The change at a place, if there is one.
-fn trend_at(trends: &[Option<i128>], place: usize) -> Option<i128>
-    ensures { result ≡ value_at place trends.now }
-{
-    match trends.get(place) {
-        Some(trend) => *trend,
-        None => None,
-    }
-}
-
 /// The fields of the changes of averages and contents.
 #[tactic(auto, unfolding(crate::specs::Rows::trend_fields))]
 fn put_trends(
@@ -132,7 +121,7 @@ fn put_trends(
     ensures range { OnOk result (MayBeAmounts (labels figures.now) trends.now) }
 {
     for i in 0..figures.len() {
-        put_trend(alloc, fields, &figures[i], trend_at(trends, i))?;
+        put_trend(alloc, fields, &figures[i], value_at(trends, i))?;
     }
     Ok(())
 }

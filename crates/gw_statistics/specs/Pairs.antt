@@ -1,6 +1,5 @@
 -- Differences of values by pairs.
-use Rattle.std.specs.Prelude.{ℕ, ◌^◌, nat_le, List, [], ◌∷◌, ℤ, ◌-ℤ◌, unsigned_abs, ◌&&◌, if◌then◌else◌, Option, Some, None}
-use Rattle.std.specs.Option.{option_map_or}
+use Rattle.std.specs.Prelude.{◌^◌, nat_le, List, [], ◌∷◌, ℤ, ◌-ℤ◌, unsigned_abs, ◌&&◌, if◌then◌else◌, Option, Some, None}
 
 -- what a value is more than another, if neither is too great
 abbrev pub between : ℤ → ℤ → Option ℤ
@@ -13,13 +12,13 @@ difference None second = None
 difference (Some first) None = None
 difference (Some first) (Some second) = between first second
 
--- a difference before others, if there is one
-abbrev pub with_difference : Option ℤ → List ℤ → List ℤ
-with_difference None others = others
-with_difference (Some value) others = value ∷ others
+-- a value before others, if it is there
+abbrev pub with_value : Option ℤ → List ℤ → List ℤ
+with_value None values = values
+with_value (Some value) values = value ∷ values
 
 -- the differences of two columns of values, pair by pair
 unfoldable pub differences : List (Option ℤ) → List (Option ℤ) → List ℤ
 differences [] second = []
 differences (value ∷ first) [] = []
-differences (value ∷ first) (other ∷ second) = with_difference (difference value other) (differences first second)
+differences (value ∷ first) (other ∷ second) = with_value (difference value other) (differences first second)

@@ -17,4 +17,4 @@ pub use pairs::differences;
 pub use quantiles::{QUANTILES, quantile, runs_to_halve};
 pub use rounding::{nearest, nearest_of};
 pub use summary::{MOST_VALUES, Summary, summarize};
-pub use telling::told_half_width;
+pub use telling::{put_told, told_half_width};

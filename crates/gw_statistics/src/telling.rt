@@ -1,7 +1,27 @@
-//! A half-width beside its mean, as both are told in thousandths.
+//! A value, and a half-width beside its mean, as they are told in thousandths.
 
 ghost use Rattle.std.specs.Prelude.{◌≡◌, ◌≤◌, ◌+◌, ◌^◌};
 ghost use Rattle.gw_statistics.specs.Telling as model;
+ghost use Rattle.gw_writing.specs.Text.{Puts};
+
+use gw_writing::put_signed_decimal;
+use std::alloc::AllocError;
+
+/// Millionths in thousandths, to the nearest; what lies in the middle goes away from 0.
+fn thousandths_of(value: i128) -> i128
+    ensures { result ≡ model.thousandths_of value }
+{
+    let size = ((value.unsigned_abs() + 500) / 1000) as i128;
+    if value < 0 { -size } else { size }
+}
+
+/// A value of millionths, told in thousandths.
+#[tactic(auto, unfolding(crate::specs::Telling::told))]
+pub fn put_told(out: &mut Vec<u8>, value: &i128) -> Result<(), AllocError>
+    ensures { Puts result out.old out.new (model.told value.now) }
+{
+    put_signed_decimal(out, 3, thousandths_of(*value))
+}
 
 /// How far millionths lie from the thousandths that are told of them.
 fn distance(value: i128) -> u128

@@ -11,13 +11,14 @@ use Rattle.gw_scan.specs.declared.sim.Status.TheVariants.{Ended}
 use Rattle.gw_report.specs.Report.{status_word}
 use Rattle.gw_statistics.specs.Quantiles.{first_enough}
 use Rattle.gw_statistics.specs.Summaries.{IsSummary}
+use Rattle.gw_statistics.specs.Telling.{told}
 use Rattle.gw_statistics.specs.declared.summary.Summary.{Summary}
 use Rattle.gw_figures.specs.Labels.{Label, label_of, labels}
 use Rattle.gw_figures.specs.declared.figure.Figure.{Figure}
 use Rattle.gw_figures.specs.declared.run.Run.{Run}
 use Rattle.gw_study.specs.declared.request.StudyRequest.{StudyRequest}
 use Rattle.gw_study.specs.declared.telling.Results.{Results}
-use Rattle.gw_study.specs.Text.{row_line, head_line, thousandths_of, thousandths_text}
+use Rattle.gw_study.specs.Text.{row_line, head_line}
 pub use Rattle.gw_figures.specs.Trends.{value_at_place, value_at}
 
 -- ENDS
@@ -129,7 +130,7 @@ exceeds mean (Some h) = nat_lt h (unsigned_abs mean / 2 + min 1 (unsigned_abs me
 
 -- by how much an average changes, behind a blank
 unfoldable pub amount : ℤ → List ℕ
-amount mean = codes " " ++ thousandths_text (thousandths_of mean)
+amount mean = codes " " ++ told mean
 
 -- the same, and what is suggested
 unfoldable pub advice : ℕ → ℤ → List ℕ

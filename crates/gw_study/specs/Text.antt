@@ -1,41 +1,19 @@
 -- The lines of a study.
-use Rattle.std.specs.Prelude.{ℕ, suc, ◌+◌, ◌^◌, ◌/◌, ◌%◌, nat_le, List, [], ◌++◌, codes, ℤ, pos, negsuc}
-use Rattle.std.specs.Prelude.{neg_ℤ, unsigned_abs, Option, None, Some, if◌then◌else◌}
-use Rattle.std.specs.Fmt.{decimal}
+use Rattle.std.specs.Prelude.{ℕ, ◌^◌, nat_le, List, ◌++◌, codes, ℤ, Option, None, Some, if◌then◌else◌}
 use Rattle.gw_statistics.specs.declared.summary.Summary.{Summary}
-use Rattle.gw_statistics.specs.Telling.{told_half_width}
+use Rattle.gw_statistics.specs.Telling.{told, told_half_width}
 use Rattle.gw_writing.specs.Columns.{left, right}
-
--- a number of thousandths with three digits behind its point
-abbrev pub amount_text : ℕ → List ℕ
-amount_text n =
-    decimal (n / 1000) ++ codes "." ++ decimal (n / 100 % 10) ++ decimal (n / 10 % 10)
-    ++ decimal (n % 10)
-
-abbrev pub sign_text : ℤ → List ℕ
-sign_text (pos n) = []
-sign_text (negsuc n) = codes "-"
-
-abbrev pub thousandths_text : ℤ → List ℕ
-thousandths_text z = sign_text z ++ amount_text (unsigned_abs z)
-
--- millionths in thousandths, rounded to the nearest
-abbrev pub round_to_thousandths : ℕ → ℕ
-round_to_thousandths n = (n + 500) / 1000
-
-abbrev pub thousandths_of : ℤ → ℤ
-thousandths_of (pos n) = pos (round_to_thousandths n)
-thousandths_of (negsuc n) = neg_ℤ (pos (round_to_thousandths (suc n)))
+use Rattle.gw_writing.specs.Decimals.{with_point}
 
 -- a value of millionths in its column
 abbrev pub value_column : ℤ → List ℕ
-value_column z = right 16 (thousandths_text (thousandths_of z))
+value_column z = right 16 (told z)
 
 -- a half-width as it is told, or a line where there is none
 abbrev pub half_width_text : ℤ → Option ℕ → List ℕ
 half_width_text mean None = codes "-"
 half_width_text mean (Some h) =
-    if nat_le h (2 ^ 64) then thousandths_text (pos (told_half_width mean h)) else codes "-"
+    if nat_le h (2 ^ 64) then with_point 3 (told_half_width mean h) else codes "-"
 
 abbrev pub half_width_column : ℤ → Option ℕ → List ℕ
 half_width_column mean h = right 16 (half_width_text mean h)

@@ -2,9 +2,9 @@
 
 ghost use Rattle.std.specs.Prelude.{◌≡◌, ◌≤◌, length, vec_len, IfOk, IfSome};
 ghost use Rattle.gw_study.specs.Table as model;
-ghost use Rattle.gw_study.specs.Table.{IsSaidOf, column as column_of, value_at as value_of};
+ghost use Rattle.gw_study.specs.Table.{IsSaidOf, column as column_of};
 
-use gw_figures::Run;
+use gw_figures::{Run, value_at};
 use gw_object::Memory;
 use gw_scan::End;
 use gw_statistics::{MOST_VALUES, Summary, summarize};
@@ -68,16 +68,6 @@ pub(crate) fn trends_of_done(alloc: Global, runs: &[Run]) -> Result<Vec<&[Option
         }
     }
     Ok(done)
-}
-
-/// The value at a place, if there is one.
-fn value_at(values: &[Option<i128>], place: usize) -> Option<i128>
-    ensures { result ≡ value_of place values.now }
-{
-    match values.get(place) {
-        Some(value) => *value,
-        None => None,
-    }
 }
 
 /// The numbers at a place of all rows, if there is one in each.

@@ -33,13 +33,13 @@ fn grows(last: &Summary, change: &Summary) -> bool
 
 /// How many are there at the end of a line that grows, and what that means.
 #[tactic(auto, unfolding(crate::specs::Table::growth_text))]
-fn put_growth_text(alloc: Global, out: &mut Vec<u8>, name: &[u8], mean: &i128) -> Result<(), Memory>
+fn put_growth_text(out: &mut Vec<u8>, name: &[u8], mean: &i128) -> Result<(), Memory>
     ensures { OnOk result (out.new.items ≡ out.old.items ++ model.growth_text name.now mean.now) }
 {
     put(out, "GROWS ")?;
     out.extend_from_slice(name)?;
     put(out, " to")?;
-    put_amount(alloc, out, mean)?;
+    put_amount(out, mean)?;
     put(
         out,
         ": more come than can be served, so averages grow with the length of the run\n",
@@ -48,7 +48,6 @@ fn put_growth_text(alloc: Global, out: &mut Vec<u8>, name: &[u8], mean: &i128) -
 
 /// What is told of what is there at the end, and of its change since halfway.
 fn put_growth_of(
-    alloc: Global,
     out: &mut Vec<u8>,
     name: &[u8],
     last: &Summary,
@@ -60,12 +59,11 @@ fn put_growth_of(
     if !grows(last, change) {
         return Ok(());
     }
-    put_growth_text(alloc, out, name, &last.mean)
+    put_growth_text(out, name, &last.mean)
 }
 
 /// The same, if anything is said of them.
 fn put_growth_if(
-    alloc: Global,
     out: &mut Vec<u8>,
     name: &[u8],
     last: Option<Summary>,
@@ -75,7 +73,7 @@ fn put_growth_if(
         (out.new.items ≡ out.old.items ++ model.growth_line name.now last change) }
 {
     match (last, change) {
-        (Some(last), Some(change)) => put_growth_of(alloc, out, name, &last, &change),
+        (Some(last), Some(change)) => put_growth_of(out, name, &last, &change),
         _ => Ok(()),
     }
 }
@@ -99,7 +97,7 @@ fn put_growth(
     }
     let last = said_at(alloc, rows, place)?;
     let change = said_at(alloc, trends, place)?;
-    put_growth_if(alloc, out, &figure.name, last, change)
+    put_growth_if(out, &figure.name, last, change)
 }
 
 /// A line for each content that grows to the end of the run.

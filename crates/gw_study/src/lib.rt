@@ -15,7 +15,7 @@ mod seeds;
 mod streams;
 mod studying;
 mod telling;
-pub mod text;
+mod text;
 
 pub use request::{MOST_RUNS, StudyRequest};
 pub use seeds::seeds_of;

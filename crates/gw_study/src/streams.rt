@@ -1,10 +1,9 @@
 //! Whether runs may have drawn numbers that other streams draw too.
 
 ghost use Rattle.std.specs.Prelude.{◌≡◌, ◌≤◌, ◌+◌, ◌-◌, ◌^◌, ◌++◌, min, nat_lt, length, option_to_list, None, IfOk, OnOk};
-ghost use Rattle.gw_figures.specs.Trends as trends;
 ghost use Rattle.gw_study.specs.Streams as model;
 
-use gw_figures::{Overdraw, Run};
+use gw_figures::{Overdraw, Run, value_at};
 use gw_notes::{draws, draws_at};
 use gw_object::{Block, Entity, Memory, Parts};
 use gw_writing::{put, put_number};
@@ -27,16 +26,6 @@ fn units_in(value: Option<i128>) -> u128
     match value {
         Some(value) if value >= 0 => (value.unsigned_abs() / 1_000_000).min(1 << 64),
         _ => 0,
-    }
-}
-
-/// The value at a place, if there is one.
-fn value_at(values: &[Option<i128>], place: usize) -> Option<i128>
-    ensures { result ≡ trends.value_at place values.now }
-{
-    match values.get(place) {
-        Some(value) => *value,
-        None => None,
     }
 }
 

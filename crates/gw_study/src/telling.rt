@@ -1,18 +1,18 @@
 //! The table of a study.
 
-ghost use Rattle.std.specs.Prelude.{◌≡◌, ◌≤◌, ◌^◌, ◌++◌, ◌∷◌, length, vec_len, Some, IfOk, OnOk};
+ghost use Rattle.std.specs.Prelude.{◌≡◌, ◌≤◌, ◌^◌, ◌++◌, length, vec_len, Some, IfOk, OnOk};
 ghost use Rattle.gw_study.specs.Table as model;
 ghost use Rattle.gw_study.specs.Table.{AddsFigureRow, AddsFigureRows, AddsTrend, AddsTrends, IsTableOfResults};
 
 use crate::columns::{ended_so, said_at, trends_of_done, values_of_done};
 use crate::growing::put_growths;
 use crate::request::StudyRequest;
-use crate::text::{Thousandths, put_head, put_line, thousandths_of};
+use crate::text::{put_head, put_line};
 use gw_figures::{Figure, Run};
 use gw_object::Memory;
 use gw_report::status_word;
 use gw_scan::{End, Status};
-use gw_statistics::{Summary, runs_to_halve};
+use gw_statistics::{Summary, put_told, runs_to_halve};
 use gw_writing::{put, put_number};
 use std::alloc::Global;
 
@@ -152,41 +152,27 @@ pub(crate) fn exceeds(mean: &i128, half_width: Option<u128>) -> bool
     }
 }
 
-/// A text behind a blank.
-fn put_behind_blank(out: &mut Vec<u8>, text: &[u8]) -> Result<(), Memory>
-    ensures { OnOk result (out.new.items ≡ out.old.items ++ 32 ∷ text.now) }
-{
-    out.push(b' ')?;
-    out.extend_from_slice(text)
-}
-
 /// By how much an average changes, behind a blank.
 #[tactic(auto, unfolding(crate::specs::Table::amount))]
-pub(crate) fn put_amount(alloc: Global, out: &mut Vec<u8>, mean: &i128) -> Result<(), Memory>
+pub(crate) fn put_amount(out: &mut Vec<u8>, mean: &i128) -> Result<(), Memory>
     ensures { OnOk result (out.new.items ≡ out.old.items ++ model.amount mean.now) }
 {
-    let told = format!(in alloc; "{}", Thousandths(thousandths_of(*mean)))?;
-    put_behind_blank(out, told.as_bytes())
+    put(out, " ")?;
+    put_told(out, mean)
 }
 
 /// What an average's change is told with: by how much, and what is suggested.
 #[tactic(auto, unfolding(crate::specs::Table::advice))]
-fn put_advice(alloc: Global, out: &mut Vec<u8>, suggested: u64, mean: &i128) -> Result<(), Memory>
+fn put_advice(out: &mut Vec<u8>, suggested: u64, mean: &i128) -> Result<(), Memory>
     ensures { OnOk result (out.new.items ≡ out.old.items ++ model.advice suggested mean.now) }
 {
-    put_amount(alloc, out, mean)?;
+    put_amount(out, mean)?;
     put_number(out, ": try --from ", suggested)?;
     put(out, "\n")
 }
 
 /// What is told of an average's change, where it is great.
-fn put_great(
-    alloc: Global,
-    out: &mut Vec<u8>,
-    name: &[u8],
-    suggested: u64,
-    change: &Summary,
-) -> Result<(), Memory>
+fn put_great(out: &mut Vec<u8>, name: &[u8], suggested: u64, change: &Summary) -> Result<(), Memory>
     ensures { OnOk result (out.new.items
         ≡ out.old.items ++ model.trend_line name.now suggested (Some change.now)) }
 {
@@ -195,12 +181,11 @@ fn put_great(
     }
     put(out, "TREND ")?;
     out.extend_from_slice(name)?;
-    put_advice(alloc, out, suggested, &change.mean)
+    put_advice(out, suggested, &change.mean)
 }
 
 /// What is told of an average's change, if anything is said of it.
 fn put_change(
-    alloc: Global,
     out: &mut Vec<u8>,
     name: &[u8],
     suggested: u64,
@@ -210,7 +195,7 @@ fn put_change(
         (out.new.items ≡ out.old.items ++ model.trend_line name.now suggested said) }
 {
     match said {
-        Some(change) => put_great(alloc, out, name, suggested, &change),
+        Some(change) => put_great(out, name, suggested, &change),
         None => Ok(()),
     }
 }
@@ -232,7 +217,7 @@ fn put_trend(
         return Ok(());
     }
     let said = said_at(alloc, rows, place)?;
-    put_change(alloc, out, &figure.name, suggested, said)
+    put_change(out, &figure.name, suggested, said)
 }
 
 /// A line for each average that changes much from the first half of the window to the second.

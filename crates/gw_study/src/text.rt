@@ -1,14 +1,12 @@
 //! The lines of a study.
 
-ghost use Rattle.std.specs.Prelude.{◌≡◌, ◌≤◌, ◌++◌, ◌^◌, OnOk, Some};
+ghost use Rattle.std.specs.Prelude.{◌≡◌, ◌++◌, OnOk, Some};
 ghost use Rattle.gw_study.specs.Text as model;
-ghost use Rattle.gw_writing.specs.Columns.{right};
 
 use gw_object::Memory;
-use gw_statistics::{Summary, told_half_width};
-use gw_writing::{put_left, put_right};
+use gw_statistics::{Summary, put_told, told_half_width};
+use gw_writing::{put_decimal, put_left, put_right};
 use std::alloc::Global;
-use std::fmt;
 
 /// How wide a name is.
 const NAME: usize = 40;
@@ -16,46 +14,13 @@ const NAME: usize = 40;
 /// How wide a number is.
 const NUMBER: usize = 16;
 
-/// Thousandths, which print as a number with three digits behind its point.
-#[derive(Drop)]
-pub struct Thousandths(pub i128);
-
-impl fmt::Display for Thousandths {
-    ghost output = { λ t. Some (model.thousandths_text t.0) };
-
-    fn fmt<W: fmt::Write>(&self, f: &mut fmt::Formatter<W>) -> fmt::Result {
-        let sign = if self.0 < 0 { "-" } else { "" };
-        let size = self.0.unsigned_abs();
-        let whole = size / 1000;
-        let tenths = size / 100 % 10;
-        let hundredths = size / 10 % 10;
-        let thousandths = size % 10;
-        write!(f, "{sign}{whole}.{tenths}{hundredths}{thousandths}")
-    }
-}
-
-/// Millionths in thousandths, rounded to the nearest; what lies in the middle goes away from 0.
-pub fn thousandths_of(value: i128) -> i128
-    ensures { result ≡ model.thousandths_of value }
-{
-    let size = ((value.unsigned_abs() + 500) / 1000) as i128;
-    if value < 0 { -size } else { size }
-}
-
-/// Appends thousandths.
-fn put_thousandths(alloc: Global, out: &mut Vec<u8>, number: i128) -> Result<(), Memory>
-    ensures { OnOk result
-        (out.new.items ≡ out.old.items ++ right 16 (model.thousandths_text number)) }
-{
-    let text = format!(in alloc; "{}", Thousandths(number))?;
-    put_right(out, NUMBER, text.as_bytes())
-}
-
-/// Appends a value of millionths, in thousandths.
+/// Appends a value of millionths, as it is told.
 fn put_value(alloc: Global, out: &mut Vec<u8>, value: &i128) -> Result<(), Memory>
     ensures { OnOk result (out.new.items ≡ out.old.items ++ model.value_column value.now) }
 {
-    put_thousandths(alloc, out, thousandths_of(*value))
+    let mut text = Vec::new(alloc);
+    put_told(&mut text, value)?;
+    put_right(out, NUMBER, &text)
 }
 
 /// Appends a half-width as it is told, or a line where there is none.
@@ -70,7 +35,9 @@ fn put_half_width(
 {
     match half_width {
         Some(half_width) if half_width <= 1 << 64 => {
-            put_thousandths(alloc, out, told_half_width(*mean, half_width) as i128)
+            let mut text = Vec::new(alloc);
+            put_decimal(&mut text, 3, told_half_width(*mean, half_width))?;
+            put_right(out, NUMBER, &text)
         }
         _ => put_right(out, NUMBER, b"-"),
     }

@@ -2,6 +2,7 @@ pub mod Adding
 pub mod Complete
 pub mod Holding
 pub mod Keeping
+pub mod Refusals
 pub mod Studies
 pub mod StudyRows
 pub mod StudyTold

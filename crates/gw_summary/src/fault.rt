@@ -1,11 +1,14 @@
 //! Why rows are refused.
 
+ghost use Rattle.std.specs.Prelude.{◌≡◌, ◌++◌, IfOk};
+ghost use Rattle.gw_summary.specs.Refusals as model;
+ghost use Rattle.gw_writing.specs.Text.{Puts};
+
+use gw_answers::codes::ROW;
+use gw_answers::refusal_with_reason;
 use gw_object::Memory;
 use gw_writing::{put, put_number};
 use std::alloc::Global;
-
-/// The code of the refusal of a row (docs/refusals.md).
-pub const ROW: u16 = 84;
 
 /// Why a line is refused.
 #[derive(Clone, Copy, PartialEq, Eq)]
@@ -46,7 +49,9 @@ pub enum NoRow {
 }
 
 /// Why a line is refused, in words, where they are the same each time.
-fn reason_of(fault: RowFault) -> &'static str {
+fn reason_of(fault: RowFault) -> &'static str
+    ensures { result.now ≡ model.reason_of fault }
+{
     match fault {
         RowFault::Cut => "the line is cut off: no line feed ends it",
         RowFault::Long => "the line is longer than a row can be",
@@ -64,15 +69,10 @@ fn reason_of(fault: RowFault) -> &'static str {
     }
 }
 
-/// The code and its name, and the line.
-fn put_head(out: &mut Vec<u8>, line: u64) -> Result<(), Memory> {
-    put_number(out, "refused 84 Row at line ", line)?;
-    put(out, "\nwrong: ")
-}
-
-/// A run, and of which point it is one, where that has a name.
-fn put_run(out: &mut Vec<u8>, run: u32, point: &[u8]) -> Result<(), Memory> {
-    put_number(out, "run ", u64::from(run))?;
+/// Of which point a run is one, where that has a name.
+fn put_point(out: &mut Vec<u8>, point: &[u8]) -> Result<(), Memory>
+    ensures { Puts result out.old out.new (model.of_point point.now) }
+{
     if point.is_empty() {
         return Ok(());
     }
@@ -80,8 +80,18 @@ fn put_run(out: &mut Vec<u8>, run: u32, point: &[u8]) -> Result<(), Memory> {
     out.extend_from_slice(point)
 }
 
+/// A run, and of which point it is one.
+fn put_run(out: &mut Vec<u8>, run: u32, point: &[u8]) -> Result<(), Memory>
+    ensures { Puts result out.old out.new (model.run_text run point.now) }
+{
+    put_number(out, "run ", run)?;
+    put_point(out, point)
+}
+
 /// What is wrong, before the words of the reason.
-fn put_subject(out: &mut Vec<u8>, point: &[u8], fault: RowFault) -> Result<(), Memory> {
+fn put_wrong(out: &mut Vec<u8>, point: &[u8], fault: RowFault) -> Result<(), Memory>
+    ensures { Puts result out.old out.new (model.wrong point.now fault) }
+{
     match fault {
         RowFault::Surplus(run) | RowFault::Missing(run) => put_run(out, run, point),
         RowFault::Few(there, all) => {
@@ -92,6 +102,14 @@ fn put_subject(out: &mut Vec<u8>, point: &[u8], fault: RowFault) -> Result<(), M
     }
 }
 
+/// Why a line is refused.
+fn put_reason(out: &mut Vec<u8>, point: &[u8], fault: RowFault) -> Result<(), Memory>
+    ensures { Puts result out.old out.new (model.wrong point.now fault ++ model.reason_of fault) }
+{
+    put_wrong(out, point, fault)?;
+    put(out, reason_of(fault))
+}
+
 /// The refusal of a line by its number, from 1, as it is printed: its code and name, the number, and why, with the point of a run that
 /// isn't there or shouldn't be. What misses is told at the line behind the last.
 pub fn refusal_of(
@@ -99,11 +117,12 @@ pub fn refusal_of(
     line: u64,
     point: &[u8],
     fault: RowFault,
-) -> Result<Vec<u8>, Memory> {
-    let mut text = Vec::new(alloc);
-    put_head(&mut text, line)?;
-    put_subject(&mut text, point, fault)?;
-    put(&mut text, reason_of(fault))?;
-    put(&mut text, "\n")?;
-    Ok(text)
+) -> Result<Vec<u8>, Memory>
+    ensures { IfOk result (λ text. text.items ≡ model.refusal_text line point.now fault) }
+{
+    let mut subject = Vec::new(alloc);
+    let mut reason = Vec::new(alloc);
+    put_number(&mut subject, "line ", line)?;
+    put_reason(&mut reason, point, fault)?;
+    refusal_with_reason(alloc, ROW, &subject, &reason)
 }

@@ -13,7 +13,7 @@ mod rows;
 mod study;
 mod telling;
 
-pub use fault::{NoRow, ROW, RowFault, refusal_of};
+pub use fault::{NoRow, RowFault, refusal_of};
 pub use pieces::Pieces;
 pub use rows::Rows;
 pub use telling::{SummaryRequest, summary};

@@ -1,10 +1,6 @@
 -- The columns of a trace.
-use Rattle.std.specs.Prelude.{ℕ, ◌-◌, List, ◌++◌, length, take, codes, ◌==◌, if◌then◌else◌}
+use Rattle.std.specs.Prelude.{ℕ, List, codes, ◌==◌, if◌then◌else◌}
 use Rattle.std.specs.Fmt.{decimal}
-
--- a text, with blanks before it up to a width, which is at most 12
-abbrev pub column : ℕ → List ℕ → List ℕ
-column width text = take (width - length text) (codes "            ") ++ text
 
 -- a number from 1, or a dash for 0, which stands for none
 abbrev pub number_or_dash : ℕ → List ℕ

@@ -20,7 +20,8 @@ use Rattle.gw_trace.specs.declared.sight.Choice.{Choice}
 use Rattle.gw_trace.specs.declared.sight.Sight.{Sight}
 use Rattle.gw_trace.specs.declared.happening.Happening.{Happening}
 use Rattle.gw_trace.specs.declared.happening.Happening.TheVariants.{Activation, ClockMove, Entry, Refusal, Stop}
-use Rattle.gw_trace.specs.Columns.{column, number_or_dash}
+use Rattle.gw_writing.specs.Columns.{padded}
+use Rattle.gw_trace.specs.Columns.{number_or_dash}
 use Rattle.gw_trace.specs.Happenings.{is_delayed, let_in, what_happened, woken_members}
 use Rattle.gw_trace.specs.Sights.{next_block}
 
@@ -166,7 +167,7 @@ end_text (Some end) = codes ", the run ends: " ++ status_word (Ended end)
 
 -- the transaction and the block that a step was about
 abbrev pub subject_columns : Option ℕ → ℕ → List ℕ
-subject_columns n b = column 8 (number_or_dash (unwrap_or n 0)) ++ column 7 (number_or_dash b)
+subject_columns n b = padded 8 (number_or_dash (unwrap_or n 0)) ++ padded 7 (number_or_dash b)
 
 -- who became active, and the block that it tries to enter; who was active, and the block that it entered, or that it tried to enter
 abbrev pub subject : Sight → State → Happening → List ℕ
@@ -177,12 +178,12 @@ subject before after other = subject_columns before.active before.next.block
 -- how many are on the current events chain, on the future events chain, on delay lists and on the retry list
 abbrev pub lengths : State → List ℕ
 lengths s =
-    column 7 (decimal (length s.lists.current_events)) ++ column 7 (decimal (length s.lists.future_events))
-    ++ column 7 (decimal (delayed_in s)) ++ column 7 (decimal (length s.lists.retry))
+    padded 7 (decimal (length s.lists.current_events)) ++ padded 7 (decimal (length s.lists.future_events))
+    ++ padded 7 (decimal (delayed_in s)) ++ padded 7 (decimal (length s.lists.retry))
 
 -- the columns of a line
 unfoldable pub columns : Sight → State → Happening → List ℕ
-columns before after what = column 12 (signed_decimal after.clock) ++ subject before after what ++ lengths after ++ codes "  "
+columns before after what = padded 12 (signed_decimal after.clock) ++ subject before after what ++ lengths after ++ codes "  "
 
 -- what happened, whom it woke, and the end of the run, if it ended
 unfoldable pub words : Parts → Sight → State → Happening → List ℕ

@@ -15,6 +15,7 @@ use Rattle.gw_object.specs.declared.parts.TableParameter.{TableParameter}
 use Rattle.gw_object.specs.declared.parts.TableState.{TableState}
 use Rattle.gw_object.specs.declared.parts.Parts.{Parts}
 use Rattle.gw_rules.specs.Exits.{returns_to}
+use Rattle.gw_rules.specs.Kinds.{return_row_of}
 use Rattle.gw_rules.specs.Rows.{kind_of, return_blocks}
 use Rattle.gw_rules.specs.Seen.{row_meaning, kind_said}
 use Rattle.gw_rules.specs.Weights.{weight_at as weight_of_block, slope_at}
@@ -26,7 +27,7 @@ use Rattle.gw_object.specs.declared.blocks.Block.TheVariants as blocks
 use Rattle.gw_weights.proofs.Reading.{kind_read}
 use Rattle.gw_least_weights.specs.Rules.{IsWeight, weight_at, of_sum, nothing}
 use Rattle.gw_weighing.specs.Layout.{layout_of, of_row}
-use Rattle.gw_weighing.specs.Sums.{with_entry, row_of_kind, row_held, is_one_followed, for_returns}
+use Rattle.gw_weighing.specs.Sums.{with_entry, row_held, is_one_followed, for_returns}
 use Rattle.gw_weighing.specs.Certificates.{with_weights}
 use Rattle.gw_weighing.proofs.Exits.{with_entry_is}
 
@@ -37,13 +38,13 @@ abbrev pub held_blocks : List ReturnRow → Option ℕ → List ℕ
 held_blocks rows None = []
 held_blocks rows (Some r) = row_blocks rows r
 
-kind_blocks : (rows : List ReturnRow) (kind : TableKind) → return_blocks (Some (kind_said rows kind)) ≡ held_blocks rows (row_of_kind kind)
+kind_blocks : (rows : List ReturnRow) (kind : TableKind) → return_blocks (Some (kind_said rows kind)) ≡ held_blocks rows (return_row_of kind)
 kind_blocks rows Num = refl
 kind_blocks rows (Ret r) = refl
 
 found_blocks : (rows : List ReturnRow) (set : Option TableParameter)
     → return_blocks (option_map (λ (s : TableParameter). kind_said rows s.kind) set)
-    ≡ held_blocks rows (option_and_then (λ (s : TableParameter). row_of_kind s.kind) set)
+    ≡ held_blocks rows (option_and_then (λ (s : TableParameter). return_row_of s.kind) set)
 found_blocks rows None = refl
 found_blocks rows (Some set) = kind_blocks rows set.kind
 

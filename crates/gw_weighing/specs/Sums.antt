@@ -6,12 +6,11 @@ use Rattle.gw_object.specs.declared.blocks.Block.{Block}
 use Rattle.gw_object.specs.declared.blocks.Block.TheVariants as blocks
 use Rattle.gw_object.specs.Returns.{row_blocks}
 use Rattle.gw_object.specs.declared.parts.ReturnRow.{ReturnRow}
-use Rattle.gw_object.specs.declared.parts.TableKind.{TableKind}
-use Rattle.gw_object.specs.declared.parts.TableKind.TheVariants.{Num, Ret}
 use Rattle.gw_object.specs.declared.parts.TableParameter.{TableParameter}
 use Rattle.gw_object.specs.declared.parts.TableState.{TableState}
 use Rattle.gw_object.specs.declared.parts.Parts.{Parts}
 use Rattle.gw_rules.specs.Exits.{leads_to, exits}
+use Rattle.gw_rules.specs.Kinds.{return_row_of}
 use Rattle.gw_object.specs.Limits.{greatest_weight}
 use Rattle.gw_rules.specs.Weights.{above, goes_at_once, slope_at, treats}
 use Rattle.gw_rules.specs.declared.slopes.Treatment.{Treatment}
@@ -72,14 +71,9 @@ abbrev pub for_exit_there : Layout → Parts → ℕ → Block → Option Exit �
 for_exit_there y p b block None = nothing
 for_exit_there y p b block (Some exit) = for_exit y p b block exit
 
--- the return row of which a kind is
-abbrev pub row_of_kind : TableKind → Option ℕ
-row_of_kind Num = None
-row_of_kind (Ret r) = Some r
-
 -- the return row whose blocks a parameter may return to by a row of the state table
 abbrev pub row_held : TableState → ℕ → Option ℕ
-row_held row q = option_and_then (λ (set : TableParameter). row_of_kind set.kind) (find (λ (set : TableParameter). set.number == q) row.parameters)
+row_held row q = option_and_then (λ (set : TableParameter). return_row_of set.kind) (find (λ (set : TableParameter). set.number == q) row.parameters)
 
 -- whether there is a block behind one of these
 abbrev pub is_one_followed : Layout → List ℕ → Bool

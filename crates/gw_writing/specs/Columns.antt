@@ -5,6 +5,10 @@ use Rattle.std.specs.Prelude.{ℕ, ◌-◌, List, ◌∷◌, ◌++◌, length, r
 unfoldable pub left : ℕ → List ℕ → List ℕ
 left width text = text ++ replicate (width - length text) 32
 
--- a blank, and a text with blanks before it, so wide or as wide as it is
+-- a text with blanks before it, so wide or as wide as it is
+unfoldable pub padded : ℕ → List ℕ → List ℕ
+padded width text = replicate (width - length text) 32 ++ text
+
+-- a blank, and the same
 unfoldable pub right : ℕ → List ℕ → List ℕ
-right width text = 32 ∷ (replicate (width - length text) 32 ++ text)
+right width text = 32 ∷ padded width text

@@ -25,12 +25,20 @@ pub fn put_left(out: &mut Vec<u8>, width: usize, text: &[u8]) -> Result<(), Allo
     put_blanks(out, width.saturating_sub(text.len()))
 }
 
-/// A blank, and a text with blanks before it, so many bytes wide or as wide as it is.
+/// A text with blanks before it, so many bytes wide or as wide as it is.
+#[tactic(auto, unfolding(crate::specs::Columns::padded))]
+pub fn put_padded(out: &mut Vec<u8>, width: usize, text: &[u8]) -> Result<(), AllocError>
+    ensures { Puts result out.old out.new (model.padded width text.now) }
+{
+    put_blanks(out, width.saturating_sub(text.len()))?;
+    out.extend_from_slice(text)
+}
+
+/// A blank, and the same.
 #[tactic(auto, unfolding(crate::specs::Columns::right))]
 pub fn put_right(out: &mut Vec<u8>, width: usize, text: &[u8]) -> Result<(), AllocError>
     ensures { Puts result out.old out.new (model.right width text.now) }
 {
     out.push(b' ')?;
-    put_blanks(out, width.saturating_sub(text.len()))?;
-    out.extend_from_slice(text)
+    put_padded(out, width, text)
 }

@@ -1,5 +1,6 @@
 use Rattle.std.proofs.lemmas.Result.{IfOk-equal}
-use Rattle.gw_chart.specs.Plots.{level_at, level_line, number_text}
+use Rattle.gw_drawing.specs.Text.{level_line}
+use Rattle.gw_chart.specs.Plots.{level_at, number_text}
 use Rattle.gw_drawing.proofs.Series.{chain2}
 use Rattle.gw_chart.proofs.plot.put_level.Goals as goal
 

@@ -2,7 +2,8 @@ use Rattle.std.proofs.Common.{codes, ◌+◌}
 use Rattle.std.proofs.lemmas.Result.{IfOk-equal}
 use Rattle.gw_drawing.proofs.Series.{chain2}
 use Rattle.gw_comparison.specs.Frames.{place_of}
-use Rattle.gw_comparison.specs.Pictures.{level_line, number_text}
+use Rattle.gw_drawing.specs.Text.{level_line}
+use Rattle.gw_comparison.specs.Pictures.{number_text}
 use Rattle.gw_comparison.proofs.picture.put_level.Goals as goal
 
 pub returns : goal.returns

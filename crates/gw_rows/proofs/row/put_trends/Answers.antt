@@ -11,7 +11,7 @@ pub loop-i-preserved : goal.loop-i-preserved
 unfolding trend_fields
 loop-i-preserved c =
     let figure = c.index-figures-i.result in
-    let told = subst (λ t. has_trend (label_of figure) ≡ true → IsAmount t) c.trend_at.ensures c.in_ok-put_trend.ensures.range in
+    let told = subst (λ t. has_trend (label_of figure) ≡ true → IsAmount t) c.value_at.ensures c.in_ok-put_trend.ensures.range in
     record {
       fields = grind (arith, common_steps);
       range = λ more. c.loop-i.invariant.range

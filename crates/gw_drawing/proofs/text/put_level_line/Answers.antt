@@ -1,9 +1,8 @@
 use Rattle.std.proofs.Common.{codes}
 use Rattle.std.proofs.lemmas.Result.{IfOk-equal}
-use Rattle.gw_drawing.specs.Text.{tenths}
+use Rattle.gw_drawing.specs.Text.{tenths, level_line}
 use Rattle.gw_drawing.proofs.Series.{chain3}
-use Rattle.gw_comparison.specs.Pictures.{level_line}
-use Rattle.gw_comparison.proofs.picture.put_level_line.Goals as goal
+use Rattle.gw_drawing.proofs.text.put_level_line.Goals as goal
 
 pub returns : goal.returns
 unfolding level_line
