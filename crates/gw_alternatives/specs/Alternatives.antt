@@ -1,5 +1,6 @@
 -- Alternatives: what each is called, and its job.
 use Rattle.std.specs.Prelude.{◌≡◌, ℕ, ◌+◌, List, [], ◌∷◌, length, codes, Result, Ok}
+use Rattle.gw_step.specs.Job.{Job}
 use Rattle.gw_parameters.specs.Points.{AsksFor, IsPoint, name_of, count_of}
 use Rattle.gw_parameters.specs.declared.points.Points.{Points}
 use Rattle.gw_study.specs.Study.{IsCountedJob}
@@ -32,6 +33,10 @@ ArePointsOf text points count alternatives =
 abbrev pub ArePoints : List ℕ → List (List ℕ) → ℕ → List StudyPoint → Type 0
 ArePoints text words count alternatives =
     (points : Points) × AsksFor words (Ok points) × ArePointsOf text points count alternatives
+
+-- one alternative without a name, with this job
+abbrev pub IsLonePoint : Job → List StudyPoint → Type 0
+IsLonePoint j alternatives = (a : StudyPoint) × (alternatives ≡ a ∷ []) × (a.name.items ≡ []) × (a.spec ≡ j)
 
 -- TWO MODELS
 

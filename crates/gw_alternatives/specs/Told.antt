@@ -139,12 +139,6 @@ abbrev pub IsAnswerAbout : Form → StudyRequest → List StudyPoint → List �
 IsAnswerAbout form request alternatives text status =
     ((status ≡ end_status) × AreTold form request alternatives text) ⊎ (status ≡ refusal_status)
 
--- what answers about alternatives, or why there are none
-abbrev pub AnswersAbout : {E : Type 0} → Result (Vec StudyPoint Global) NoAnswer → Form → StudyRequest → Result Answer E → Type 0
-AnswersAbout found form request result =
-    MatchResult found (λ all. AnswersAs result (IsAnswerAbout form request all.items))
-    (λ none. IfOk result (λ a. a.status ≡ refusal_status))
-
 -- the same where these are alternatives of a kind, or there are none
 abbrev pub IsToldOr : (List StudyPoint → Type 0) → Form → StudyRequest → List ℕ → ℕ → Type 0
 IsToldOr Are form request text status =

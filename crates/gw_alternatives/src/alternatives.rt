@@ -1,16 +1,18 @@
 //! The jobs of alternatives: each is there, or the first that is refused, before any run.
 
-ghost use Rattle.std.specs.Prelude.{◌≡◌, ◌<◌, ◌≤◌, ◌++◌, ◌∷◌, [], length, map, IfOk, OnOk};
+ghost use Rattle.std.specs.Prelude.{◌≡◌, ◌<◌, ◌≤◌, ◌++◌, ◌∷◌, [], length, map, IfOk, IfErr, OnOk};
+ghost use Rattle.gw_answers.specs.ModelJobs.{OnRefusal};
+ghost use Rattle.gw_study.specs.Study.{IsStudyRefusal};
 ghost use Rattle.gw_parameters.specs.Points.{count_of, name_of as point_name};
-ghost use Rattle.gw_alternatives.specs.Alternatives.{IsAlternative, IsPointAt, ArePoints, ArePointsOf, AreModels};
+ghost use Rattle.gw_alternatives.specs.Alternatives.{IsAlternative, IsLonePoint, IsPointAt, ArePoints, ArePointsOf, AreModels};
 
 use crate::study_point::StudyPoint;
-use gw_answers::{NoJob, Refusal, answer_refusal};
+use gw_answers::{BUDGET, NoJob, Refusal, answer_refusal};
 use gw_figures::figures;
 use gw_object::Memory;
 use gw_parameters::{NoAnswer, ParameterFault, Points, points_of, refusal_of as parameter_refusal};
 use gw_scan::Spec;
-use gw_study::job_of_text;
+use gw_study::job_of_model;
 use std::alloc::Global;
 
 /// The line of a refusal, and of which alternative it is.
@@ -44,7 +46,7 @@ pub(crate) fn alternative_of(
 ) -> Result<StudyPoint, NoAnswer>
     ensures { IfOk result (IsAlternative name.items text.now count) }
 {
-    match job_of_text(alloc, text, count) {
+    match job_of_model(alloc, text, count) {
         Ok(spec) => Ok(StudyPoint { name, spec }),
         Err(none) => {
             let none = refusal_of(alloc, none, &name);
@@ -140,14 +142,53 @@ fn copy_of(alloc: Global, name: &[u8]) -> Result<Vec<u8>, NoAnswer>
     }
 }
 
+/// An alternative without a name, with this job.
+fn nameless(alloc: Global, spec: Spec) -> StudyPoint
+    requires { spec.budget ≡ BUDGET }
+    ensures { (result.name.items ≡ []) × (result.spec ≡ spec) }
+{
+    StudyPoint {
+        name: Vec::new(alloc),
+        spec,
+    }
+}
+
+/// A list of one alternative, which has no name.
+fn list_of(alloc: Global, spec: Spec) -> Result<Vec<StudyPoint>, NoAnswer>
+    requires { spec.budget ≡ BUDGET }
+    ensures { IfOk result (λ all. IsLonePoint spec all.items) }
+{
+    let mut alternatives = Vec::new(alloc);
+    let alternative = nameless(alloc, spec);
+    add(&mut alternatives, alternative)?;
+    Ok(alternatives)
+}
+
+/// The one point of a model as it is; or why there is none, as a study tells it.
+#[tactic(auto, using(crate::proofs::Lone::few))]
+pub fn lone_point(alloc: Global, model: &[u8], count: u64) -> Result<Vec<StudyPoint>, NoJob>
+    ensures points { IfOk result (λ all. ArePoints model.now [] count all.items) }
+    ensures few { IfOk result (λ all. length all.items ≤ 64) }
+    ensures none { IfErr result (λ none. OnRefusal none (IsStudyRefusal model.now count)) }
+{
+    match job_of_model(alloc, model, count) {
+        Ok(spec) => match list_of(alloc, spec) {
+            Ok(alternatives) => Ok(alternatives),
+            Err(_) => Err(NoJob::OutOfMemory),
+        },
+        Err(none) => Err(none),
+    }
+}
+
 /// Two models: A and B.
-pub(crate) fn models_of(
+pub fn models_of(
     alloc: Global,
     first: &[u8],
     second: &[u8],
     count: u64,
 ) -> Result<Vec<StudyPoint>, NoAnswer>
-    ensures { IfOk result (λ all. AreModels first.now second.now count all.items) }
+    ensures models { IfOk result (λ all. AreModels first.now second.now count all.items) }
+    ensures few { IfOk result (λ all. length all.items ≤ 64) }
 {
     let mut alternatives = Vec::new(alloc);
     let name = copy_of(alloc, b"A")?;

@@ -10,8 +10,8 @@ mod form;
 mod study_point;
 mod told;
 
-pub use alternatives::points_by_words;
-pub use answering::{compare, study_points};
+pub use alternatives::{lone_point, models_of, points_by_words};
+pub use answering::study_points;
 pub use form::Form;
 pub use study_point::StudyPoint;
 pub use told::{point_of, put_block, put_table};

@@ -11,7 +11,8 @@ pub mod Acceptance
 pub mod Refusal
 pub mod Service
 pub mod Reasons
--- THE JOB OF A MODEL TEXT
+-- THE JOB OF A MODEL, A TEXT OR AN OBJECT
+pub mod Inputs
 pub mod ModelJobs
 -- ITS RUN
 pub mod Running

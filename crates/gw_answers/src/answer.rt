@@ -66,8 +66,8 @@ fn run_and_report(alloc: Global, sim: &mut Sim) -> Result<Answer, Memory>
     concluded(alloc, sim)
 }
 
-/// Runs a job to its end.
-fn answer_of_job(alloc: Global, spec: Spec) -> Result<Answer, Memory>
+/// Runs a job to its end: the text that is to be written, and the status. `Err` where memory runs out.
+pub fn answer_of_job(alloc: Global, spec: Spec) -> Result<Answer, Memory>
     requires { spec.budget ≡ BUDGET }
     ensures { IfOk result (λ a. Concludes spec a.text.items a.status) }
 {
@@ -133,7 +133,12 @@ fn verified_object(alloc: Global, object: Object) -> Result<Verified, NoJob>
 }
 
 /// A job with this one seed and this count; 0 means the object's own.
-fn spec_with(alloc: Global, verified: Verified, seed: u32, count: u64) -> Result<Spec, NoJob>
+pub(crate) fn spec_with(
+    alloc: Global,
+    verified: Verified,
+    seed: u32,
+    count: u64,
+) -> Result<Spec, NoJob>
     ensures found { FindsJob result (job_made seed count verified) }
     ensures budget { IfOk result (λ spec. spec.budget ≡ BUDGET) }
 {
@@ -152,7 +157,7 @@ fn spec_with(alloc: Global, verified: Verified, seed: u32, count: u64) -> Result
     }
 }
 
-/// The job of the object that the bytes spell.
+/// The job of the object that the bytes spell, with this one seed and this count; 0 means the object's own.
 #[tactic(auto, unfolding(crate::specs::Answer::job_of))]
 pub fn spec_of(alloc: Global, seed: u32, count: u64, input: &[u8]) -> Result<Spec, NoJob>
     ensures found { FindsJob result (job_of seed count input.now) }

@@ -2,12 +2,13 @@
 //!
 //! It promises that a text and a status are what the bytes, a seed and a count determine, and has
 //! the words of refusals and of an accepted object. For what planners ask it makes the job of a
-//! model text. It reads and writes nothing (docs/program.md).
+//! model, a text or an object. It reads and writes nothing (docs/program.md).
 #![tactic(auto)]
 
 mod acceptance;
 mod answer;
 pub mod codes;
+mod inputs;
 mod job;
 mod laws;
 mod names;
@@ -20,10 +21,11 @@ pub mod status;
 
 pub use acceptance::Acceptance;
 pub use answer::{
-    Answer, BUDGET, NoJob, accepted_in, answer_acceptance, answer_refusal, answer_to, run_to_end,
-    spec_of,
+    Answer, BUDGET, NoJob, accepted_in, answer_acceptance, answer_of_job, answer_refusal,
+    answer_to, run_to_end, spec_of,
 };
-pub use job::spec_of_text;
+pub use inputs::is_object;
+pub use job::spec_of_model;
 pub use laws::answers_are_determined;
 pub use names::NAMES;
 pub use reasons::refusal_with_reason;

@@ -3,7 +3,6 @@
 ghost use Rattle.std.specs.Prelude.{◌≡◌, Some, IfOk};
 ghost use Rattle.gw_step.specs.Job.{Alone, IsFinal, start_of};
 ghost use Rattle.gw_answers.specs.Status.{end_status as ended_status};
-ghost use Rattle.gw_answers.specs.ModelJobs.{AnswersModel};
 ghost use Rattle.gw_chart.specs.Samples.{AreSamples, AreAllBands};
 ghost use Rattle.gw_chart.specs.Windows.{clip as clipped_to};
 ghost use Rattle.gw_chart.specs.Charts.{EndsAt, IsChart, IsSheet, Shows};
@@ -13,7 +12,7 @@ use crate::samples::{Samples, take_samples};
 use crate::sheet::put_sheet;
 use crate::window::{Window, clip};
 use gw_answers::status::ENDED;
-use gw_answers::{Answer, BUDGET, NoJob, Time, answer_refusal, run_to_end, spec_of_text};
+use gw_answers::{Answer, BUDGET, Time, run_to_end};
 use gw_object::Memory;
 use gw_scan::{Sim, Spec};
 use std::alloc::Global;
@@ -185,40 +184,23 @@ fn shown_of_job(alloc: Global, spec: Spec, window: Window, form: Form<'_>) -> Re
     }
 }
 
-/// What is shown of a model text in a form; or the line of the refusal, as the assembler's is printed.
-fn shown_of_text(
-    alloc: Global,
-    text: &[u8],
-    window: Window,
-    form: Form<'_>,
-) -> Result<Answer, Memory>
-    ensures { IfOk result (λ a.
-        AnswersModel (Shows form.entry window) text.now a.text.items a.status) }
-{
-    match spec_of_text(alloc, text) {
-        Ok(spec) => shown_of_job(alloc, spec, window, form),
-        Err(NoJob::Refused(refusal)) => answer_refusal(alloc, refusal),
-        Err(NoJob::OutOfMemory) => Err(Memory),
-    }
-}
-
-/// The charts of a model text, under a name, which may be empty: an SVG document with what was in each facility, storage, queue,
-/// switch, user chain and savevalue over a window of its run, and with the classes of each table; or the line of the refusal, as
-/// the assembler's is printed.
+/// The charts of a job, whose budget is that of a run, under a name, which may be empty: an SVG document with what was in each
+/// facility, storage, queue, switch, user chain and savevalue over a window of its run, and with the classes of each table.
 ///
 /// It fails for want of memory.
-pub fn chart(alloc: Global, text: &[u8], window: Window, name: &[u8]) -> Result<Answer, Memory>
-    ensures { IfOk result (λ a.
-        AnswersModel (IsChart window name.now) text.now a.text.items a.status) }
+pub fn chart(alloc: Global, spec: Spec, window: Window, name: &[u8]) -> Result<Answer, Memory>
+    requires { spec.budget ≡ BUDGET }
+    ensures { IfOk result (λ a. (a.status ≡ ended_status) × IsChart window name.now spec a.text.items) }
 {
-    shown_of_text(alloc, text, window, Form::Picture(name))
+    shown_of_job(alloc, spec, window, Form::Picture(name))
 }
 
-/// The points of these lines as records, in the form of RFC 4180; or the line of the refusal.
+/// The points of these lines as records, in the form of RFC 4180.
 ///
 /// It fails for want of memory.
-pub fn points(alloc: Global, text: &[u8], window: Window) -> Result<Answer, Memory>
-    ensures { IfOk result (λ a. AnswersModel (IsSheet window) text.now a.text.items a.status) }
+pub fn points(alloc: Global, spec: Spec, window: Window) -> Result<Answer, Memory>
+    requires { spec.budget ≡ BUDGET }
+    ensures { IfOk result (λ a. (a.status ≡ ended_status) × IsSheet window spec a.text.items) }
 {
-    shown_of_text(alloc, text, window, Form::Sheet)
+    shown_of_job(alloc, spec, window, Form::Sheet)
 }

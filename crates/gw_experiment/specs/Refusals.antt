@@ -19,7 +19,7 @@ reason_of fault.Twice = codes "another line says this too"
 reason_of fault.None = codes "no line is *! runs, with how many runs each point has"
 
 -- the refusal of a line by its number, from 1: the code and its name, the number, and why
-abbrev pub refusal_text : ℕ → ExperimentFault → List ℕ
+unfoldable pub refusal_text : ℕ → ExperimentFault → List ℕ
 refusal_text line fault = refusal_with_reason EXPERIMENT (codes "line " ++ decimal line) (reason_of fault)
 
 -- there is no experiment for this reason, or for want of memory

@@ -46,6 +46,7 @@ fn reason_of(fault: ExperimentFault) -> &'static str
 }
 
 /// The refusal of a line by its number, from 1, as it is printed: its code and name, the number, and why.
+#[tactic(auto, unfolding(crate::specs::Refusals::refusal_text))]
 pub fn refusal_of(alloc: Global, line: usize, fault: ExperimentFault) -> Result<Vec<u8>, Memory>
     ensures { IfOk result (λ text. text.items ≡ model.refusal_text line fault) }
 {

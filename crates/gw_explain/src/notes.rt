@@ -1,11 +1,11 @@
 //! What is noted of a model that is accepted, in words.
 
 use crate::known::put_name;
-use gw_assemble::assemble;
+use gw_answers::is_object;
 use gw_notes::{Note, notes};
 use gw_object::{Entity, Kind, Memory, Parts};
 use gw_source_lines::{Sources, sources};
-use gw_text::{Model, parse};
+use gw_text::parse;
 use gw_writing::{put, put_number};
 use std::alloc::Global;
 
@@ -119,51 +119,54 @@ fn is_on_study(note: Note) -> bool {
     !matches!(note, Note::OtherStream(_))
 }
 
-/// The notes on a study of what an object has, each in a line, behind what there is.
-fn put_notes_on_study(
-    alloc: Global,
-    out: &mut Vec<u8>,
-    parts: &Parts,
-    sources: &Sources,
-) -> Result<(), Memory> {
-    let notes = notes(alloc, parts)?;
-    for note in &notes {
+/// What is noted of an object of which a study is made.
+fn noted_on_study(alloc: Global, parts: &Parts) -> Result<Vec<Note>, Memory> {
+    let mut noted = Vec::new(alloc);
+    let all = notes(alloc, parts)?;
+    for note in &all {
         if is_on_study(*note) {
-            put_note(out, parts.entities.as_slice(), &sources.blocks, *note)?;
+            noted.push(*note)?;
         }
     }
-    Ok(())
+    Ok(noted)
 }
 
-/// The notes on a study of a model that was read, of which these are the parts.
-fn notes_with(alloc: Global, model: &Model, parts: &Parts) -> Result<Vec<u8>, Memory> {
-    let sources = sources(alloc, model)?;
+/// These notes on an object, with the lines of its blocks, where it has such, each in a line.
+fn lines_of_notes(
+    alloc: Global,
+    parts: &Parts,
+    noted: &[Note],
+    sources: &Sources,
+) -> Result<Vec<u8>, Memory> {
     let mut out = Vec::new(alloc);
-    put_notes_on_study(alloc, &mut out, parts, &sources)?;
+    for note in noted {
+        put_note(&mut out, parts.entities.as_slice(), &sources.blocks, *note)?;
+    }
     Ok(out)
 }
 
-/// The notes on a study of a model that was read.
-fn notes_on_model(alloc: Global, model: &Model) -> Result<Vec<u8>, Memory> {
-    match assemble(alloc, model).ok() {
-        Some(verified) => {
-            let notes = notes_with(alloc, model, verified.object().parts());
-            drop(verified);
-            notes
+/// The lines of a model's parts; none where it is an object.
+fn sources_of(alloc: Global, model: &[u8]) -> Result<Sources, Memory> {
+    if is_object(model) {
+        return Ok(Sources::none(alloc));
+    }
+    match parse(alloc, model) {
+        Ok(model) => {
+            let sources = sources(alloc, &model);
+            drop(model);
+            sources
         }
-        None => Ok(Vec::new(alloc)),
+        Err(_) => Ok(Sources::none(alloc)),
     }
 }
 
-/// The notes on a model text that is accepted and of which a study is made, each in a line, as they stand in its explanation; that
-/// one seed doesn't reach all streams isn't noted, and nothing of a text that is refused. `Err` where memory runs out.
-pub fn notes_on(alloc: Global, text: &[u8]) -> Result<Vec<u8>, Memory> {
-    match parse(alloc, text) {
-        Ok(model) => {
-            let notes = notes_on_model(alloc, &model);
-            drop(model);
-            notes
-        }
-        Err(_) => Ok(Vec::new(alloc)),
+/// The notes on a study of a model, a text or an object, of which these are the parts, each in a line, as they stand in its
+/// explanation; that one seed doesn't reach all streams isn't noted. `Err` where memory runs out.
+pub fn notes_on(alloc: Global, model: &[u8], parts: &Parts) -> Result<Vec<u8>, Memory> {
+    let noted = noted_on_study(alloc, parts)?;
+    if noted.is_empty() {
+        return Ok(Vec::new(alloc));
     }
+    let sources = sources_of(alloc, model)?;
+    lines_of_notes(alloc, parts, &noted, &sources)
 }

@@ -9,7 +9,8 @@ use Rattle.gw_answers.specs.Status.{end_status, refusal_status}
 use Rattle.gw_answers.specs.Answer.{object_of}
 use Rattle.gw_answers.specs.Assembly.{HasStatements, IsRefusedText}
 use Rattle.gw_answers.specs.Refusal.{refusal_line}
-use Rattle.gw_source_lines.specs.Sites.{Sites, sites_of, no_sites, is_object}
+use Rattle.gw_answers.specs.Inputs.{is_object}
+use Rattle.gw_source_lines.specs.Sites.{Sites, sites_of, no_sites}
 use Rattle.gw_listing.specs.Lines.{AreLines}
 use Rattle.gw_listing.specs.Shape.{openings}
 

@@ -7,11 +7,11 @@ ghost use Rattle.gw_listing.specs.Listing.{IsListingOf, TellsRefusal, IsListedOb
 
 use crate::parts::listing_of;
 use gw_answers::status::ENDED;
-use gw_answers::{Answer, NoJob, Refusal, accepted_in, answer_refusal};
+use gw_answers::{Answer, NoJob, Refusal, accepted_in, answer_refusal, is_object};
 use gw_assemble::assemble;
 use gw_object::{Fault, Memory, codes};
 use gw_rules::Verified;
-use gw_source_lines::{Sources, is_object, sources};
+use gw_source_lines::{Sources, sources};
 use gw_text::{Model, parse};
 use std::alloc::Global;
 

@@ -10,7 +10,7 @@ ghost use Rattle.gw_notes.specs.Notes.{Holds, HoldsUnits};
 
 use crate::drawing::draws;
 use crate::queues::{nothing_counts, only_grows};
-use gw_object::{Block, Memory, Parts, Units};
+use gw_object::{Block, Kind, Memory, Parts, Units};
 use std::alloc::Global;
 
 /// Something that is noted of a model.
@@ -78,24 +78,37 @@ fn stream_drawn(parts: &Parts, first: u8) -> Option<u8>
     None
 }
 
-/// Two streams by whose own seeds a model draws, if it has no others.
-fn own_seeds(parts: &Parts) -> Option<Note>
+/// Two streams by whose own seeds a model draws, if it has no others. The first behind stream 1 from which it draws is given.
+fn own_seeds(parts: &Parts, other: Option<u8>) -> Option<Note>
+    requires { IfSome other (λ stream. (2 ≤ stream) × (drawing.draws parts.now stream ≡ true)) }
     ensures { IfSome result (Holds parts.now) }
 {
     if !parts.seeds.as_slice().is_empty() {
         return None;
     }
-    let first = stream_drawn(parts, 1)?;
-    let second = stream_drawn(parts, first.saturating_add(1))?;
-    Some(Note::OwnSeeds(first, second))
+    let other = other?;
+    if draws(parts, 1) {
+        return Some(Note::OwnSeeds(1, other));
+    }
+    let second = stream_drawn(parts, other.saturating_add(1))?;
+    Some(Note::OwnSeeds(other, second))
 }
 
-/// The first stream behind the first from which a model draws, if there is one.
-fn other_stream(parts: &Parts) -> Option<Note>
+/// The note on a stream behind the first from which a model draws, if there is one.
+fn other_stream(parts: &Parts, other: Option<u8>) -> Option<Note>
+    requires { IfSome other (λ stream. (2 ≤ stream) × (drawing.draws parts.now stream ≡ true)) }
     ensures { IfSome result (Holds parts.now) }
 {
-    let stream = stream_drawn(parts, 2)?;
+    let stream = other?;
     Some(Note::OtherStream(stream))
+}
+
+/// Whether an entity, by its number from 0, is a queue.
+fn is_queue(parts: &Parts, number: u16) -> bool {
+    match parts.entities.as_slice().get(number as usize) {
+        Some(entity) => matches!(entity.kind, Kind::Queue),
+        None => false,
+    }
 }
 
 /// Whether the name of an entity reads as an attribute.
@@ -114,7 +127,7 @@ fn name_noted(parts: &Parts, number: u16) -> Option<Note>
 fn growth_noted(parts: &Parts, number: u16) -> Option<Note>
     ensures { IfSome result (Holds parts.now) }
 {
-    if only_grows(parts, number) {
+    if is_queue(parts, number) && only_grows(parts, number) {
         Some(Note::OnlyGrows(number))
     } else {
         None
@@ -181,8 +194,9 @@ pub fn notes(alloc: Global, parts: &Parts) -> Result<Vec<Note>, Memory>
     ensures { IfOk result (λ notes. All (Holds parts.now) notes.items) }
 {
     let mut notes = Vec::new(alloc);
-    add(parts, &mut notes, own_seeds(parts))?;
-    add(parts, &mut notes, other_stream(parts))?;
+    let other = stream_drawn(parts, 2);
+    add(parts, &mut notes, own_seeds(parts, other))?;
+    add(parts, &mut notes, other_stream(parts, other))?;
     add(parts, &mut notes, count_noted(parts))?;
     for number in 0..1024 {
         add(parts, &mut notes, name_noted(parts, number))?;

@@ -1,4 +1,4 @@
 pub mod Conversations
 pub mod Fields
-pub mod Reports
 pub mod Shares
+pub mod Costs

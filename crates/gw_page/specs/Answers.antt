@@ -1,14 +1,12 @@
 -- What an inquiry about a text is answered.
 use Rattle.std.specs.Prelude.{◌≡◌, ◌≢◌, ◌⊎◌, ℕ, List, is_some, true, false, if◌then◌else◌}
 use Rattle.gw_answers.specs.Status.{end_status}
-use Rattle.gw_answers.specs.Requests.{Answering}
 use Rattle.gw_explain.specs.Explanation.{IsExplained}
-use Rattle.gw_explain.specs.Meaning.{meaning}
 use Rattle.gw_command_line.specs.Options.{Choices}
 use Rattle.gw_command_line.specs.Words.{Act, Ask, Charts, Code, Help, Version, Studies, Compares, Rows, Sums, Object, Shares}
 use Rattle.gw_command_line.specs.declared.words.Question.{Question}
 use Rattle.gw_command_line.specs.declared.words.Question.TheVariants.{Points, Trace}
-use Rattle.gw_planner.specs.Answers.{question_answering, chart_answering, study_answering, rows_asked}
+use Rattle.gw_planner.specs.Answers.{act_answering}
 use Rattle.gw_page.specs.Limits.{Costs}
 use Rattle.gw_page.specs.declared.reply.Kind.{Kind}
 use Rattle.gw_page.specs.declared.reply.Kind.TheVariants.{Plain, Csv, Svg}
@@ -16,15 +14,6 @@ use Rattle.gw_page.specs.declared.reply.Outcome.{Outcome}
 use Rattle.gw_page.specs.declared.reply.Outcome.TheVariants.{Answered, Refused, Unavailable}
 use Rattle.gw_page.specs.declared.reply.Reply.{Reply}
 use Rattle.gw_page.specs.declared.texts.TheConstants.{NO_MEMORY, TOO_FAR, TOO_LONG, TOO_MANY, UNCOUNTED}
-
--- what the program `planner` answers a command about a text
-abbrev pub act_answering : Act → Answering
-act_answering (Ask question) text told status = question_answering question text told status
-act_answering (Charts span name) text told status = chart_answering span name text told status
-act_answering (Code code) text told status = (told ≡ meaning code) × (status ≡ end_status)
-act_answering (Studies d) text told status = study_answering false d text told status
-act_answering (Rows d) text told status = rows_asked d text told status
-act_answering _ text told status = ⊥
 
 -- what kind of text a study is
 abbrev pub kind_of_study : Choices → Kind

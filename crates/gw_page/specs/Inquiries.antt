@@ -1,18 +1,7 @@
 -- What the page may be asked of a model.
-use Rattle.std.specs.Prelude.{Option, None, Some}
-use Rattle.gw_command_line.specs.Asking.{MayBeMade, AreRunsFit}
+use Rattle.std.specs.Prelude.{Option, None, Some, is_some, Bool}
 use Rattle.gw_command_line.specs.Options.{Choices}
-use Rattle.gw_command_line.specs.Words.{Act, Ask, Charts, Code, Help, Version, Studies, Compares, Rows, Sums, Object, Shares, study_view, runs_view}
-use Rattle.gw_page.specs.declared.inquiry.Inquiry.{Inquiry}
-use Rattle.gw_page.specs.declared.inquiry.Inquiry.TheVariants as inquiries
-
--- an inquiry as a command of the program `planner`
-abbrev pub act_asked : Inquiry → Act
-act_asked (inquiries.Question question) = Ask question
-act_asked (inquiries.Chart chart) = Charts chart.span chart.name.now
-act_asked (inquiries.Code code) = Code code
-act_asked (inquiries.Study study) = Studies (study_view study)
-act_asked (inquiries.Rows runs) = Rows (runs_view runs)
+use Rattle.gw_command_line.specs.Words.{Act, Ask, Charts, Code, Help, Version, Studies, Compares, Rows, Sums, Object, Shares}
 
 -- the same options with one worker
 abbrev pub by_one_worker : Choices → Choices
@@ -32,10 +21,6 @@ offered_act (Shares shard) = None
 offered_act Help = None
 offered_act Version = None
 
--- its runs have seeds of their own
-abbrev pub MayBeAsked : Inquiry → Type 0
-MayBeAsked (inquiries.Question question) = Unit {0}
-MayBeAsked (inquiries.Chart chart) = Unit {0}
-MayBeAsked (inquiries.Code code) = Unit {0}
-MayBeAsked (inquiries.Study study) = MayBeMade study
-MayBeAsked (inquiries.Rows runs) = AreRunsFit runs
+-- whether the page offers a command
+abbrev pub is_offered : Act → Bool
+is_offered act = is_some (offered_act act)

@@ -2,10 +2,7 @@
 use Rattle.std.specs.Prelude.{◌≡◌, ◌⊎◌, ℕ, ◌<◌, ◌≤◌, ◌+◌, ◌-◌, ◌*◌, ◌/◌, ◌^◌, min, max, List, length, All, Any, ℤ, pos, Bool, true, false, Ok}
 use Rattle.std.specs.Option.{unwrap_or}
 use Rattle.gw_step.specs.Job.{Job}
-use Rattle.gw_answers.specs.Status.{end_status}
-use Rattle.gw_answers.specs.Answer.{job_of}
-use Rattle.gw_answers.specs.Assembly.{IsAssembly}
-use Rattle.gw_answers.specs.ModelJobs.{IsJobOf}
+use Rattle.gw_answers.specs.ModelJobs.{IsJobOf, IsJobWith}
 use Rattle.gw_figures.specs.Labels.{labels_of}
 use Rattle.gw_study.specs.Runs.{run_job}
 use Rattle.gw_alternatives.specs.Alternatives.{ArePoints}
@@ -28,17 +25,13 @@ most_traced = 250000
 abbrev pub most_numbers : ℕ
 most_numbers = 2000000
 
--- whether the run of a model text is within so many steps until a time
+-- whether the run of a model is within so many steps until a time
 abbrev pub IsOfModel : List ℕ → ℤ → ℕ → Bool → Type 0
 IsOfModel text time most within = (j : Job) × IsJobOf text j × IsCounted time most j within
 
--- whether the run of an object with a seed and a count is within the limit
-abbrev pub IsOfObject : List ℕ → ℕ → ℕ → Bool → Type 0
-IsOfObject object seed count within = (j : Job) × (job_of seed count object ≡ Ok j) × IsCounted end_of_time most_steps j within
-
--- whether that of a model text with these is
+-- whether that of a model with a seed and a count is within the limit
 abbrev pub IsOfReport : List ℕ → ℕ → ℕ → Bool → Type 0
-IsOfReport text seed count within = (object : List ℕ) × IsAssembly text object end_status × IsOfObject object seed count within
+IsOfReport text seed count within = (j : Job) × IsJobWith seed count text j × IsCounted end_of_time most_steps j within
 
 -- whether a run of this number of a job's object has no more than so many steps and figures
 abbrev pub IsShare : ℕ → ℕ → ℕ → Job → Bool → Type 0

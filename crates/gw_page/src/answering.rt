@@ -1,44 +1,28 @@
 //! What is asked of a model, and what it is answered.
 
-ghost use Rattle.std.specs.Prelude.{◌≡◌, IfOk};
+ghost use Rattle.std.specs.Prelude.{◌≡◌, true, IfOk};
+ghost use Rattle.gw_command_line.specs.Asking.{MayBeCarriedOut};
 ghost use Rattle.gw_command_line.specs.Options.{view};
-ghost use Rattle.gw_page.specs.Inquiries.{act_asked, MayBeAsked};
+ghost use Rattle.gw_command_line.specs.Words.{act_of};
+ghost use Rattle.gw_planner.specs.Answers.{act_answering};
+ghost use Rattle.gw_planner.specs.Works.{HasFewPoints, IsWorkOf};
+ghost use Rattle.gw_page.specs.Inquiries.{is_offered};
 ghost use Rattle.gw_page.specs.Answers as model;
-ghost use Rattle.gw_page.specs.Answers.{act_answering, TellsRefusal, IsSaid, IsReplyTo};
+ghost use Rattle.gw_page.specs.Answers.{TellsRefusal, IsSaid, IsReplyTo};
 ghost use Rattle.gw_page.specs.Limits.{IsAllowance};
 
-use crate::inquiry::Inquiry;
 use crate::limits::{Allowance, allowance_of};
 use crate::reply::{Kind, Outcome, Reply};
 use crate::texts::{NO_MEMORY, TOO_FAR, TOO_LONG, TOO_MANY, UNCOUNTED};
 use gw_answers::Answer;
 use gw_answers::status::ENDED;
-use gw_command_line::{Options, Question};
-use gw_explain::{explain, explain_code};
+use gw_command_line::{Command, Options, Question};
+use gw_explain::explain;
 use gw_object::Memory;
-use gw_planner::{answer, answer_study, picture, rows_of};
+use gw_planner::{Work, carry_out, work_of};
 use std::alloc::Global;
 use std::io::Eprint;
 use std::thread::Threads;
-
-/// What an inquiry about a text comes to.
-fn answer_of<T: Threads + Sync + Eprint>(
-    rt: &T,
-    alloc: Global,
-    inquiry: &Inquiry<'_>,
-    text: &[u8],
-) -> Result<Answer, Memory>
-    requires { MayBeAsked inquiry.now }
-    ensures { IfOk result (λ a. act_answering (act_asked inquiry.now) text.now a.text.items a.status) }
-{
-    match inquiry {
-        Inquiry::Question(question) => answer(alloc, *question, text),
-        Inquiry::Chart(chart) => picture(alloc, chart, text),
-        Inquiry::Code(code) => explain_code(alloc, *code),
-        Inquiry::Study(study) => answer_study(rt, alloc, study, false, text),
-        Inquiry::Rows(runs) => rows_of(rt, alloc, runs, text),
-    }
-}
 
 /// What kind of text a study is.
 fn kind_of_study(options: &Options<'_>) -> Kind
@@ -53,26 +37,26 @@ fn kind_of_study(options: &Options<'_>) -> Kind
     }
 }
 
-/// What kind of text answers an inquiry.
-fn kind_of(inquiry: &Inquiry<'_>) -> Kind
-    ensures { result ≡ model.kind_of (act_asked inquiry.now) }
+/// What kind of text answers a command.
+fn kind_of(command: &Command<'_>) -> Kind
+    ensures { result ≡ model.kind_of (act_of command.now) }
 {
-    match inquiry {
-        Inquiry::Question(Question::Points(_)) | Inquiry::Rows(_) => Kind::Csv,
-        Inquiry::Question(_) | Inquiry::Code(_) => Kind::Plain,
-        Inquiry::Chart(_) => Kind::Svg,
-        Inquiry::Study(study) => kind_of_study(&study.options),
+    match command {
+        Command::Ask(Question::Points(_)) | Command::Runs(_) => Kind::Csv,
+        Command::Chart(_) => Kind::Svg,
+        Command::Study(study) => kind_of_study(&study.options),
+        _ => Kind::Plain,
     }
 }
 
-/// What is said where an inquiry costs more than it may.
-fn excess_of(inquiry: &Inquiry<'_>) -> &'static [u8]
-    ensures { result.now ≡ model.excess_of (act_asked inquiry.now) }
+/// What is said where a command costs more than it may.
+fn excess_of(command: &Command<'_>) -> &'static [u8]
+    ensures { result.now ≡ model.excess_of (act_of command.now) }
 {
-    match inquiry {
-        Inquiry::Question(Question::Trace { from: _, to: _ }) => TOO_FAR,
-        Inquiry::Study(_) | Inquiry::Rows(_) => TOO_MANY,
-        Inquiry::Question(_) | Inquiry::Chart(_) | Inquiry::Code(_) => TOO_LONG,
+    match command {
+        Command::Ask(Question::Trace { from: _, to: _ }) => TOO_FAR,
+        Command::Study(_) | Command::Runs(_) => TOO_MANY,
+        _ => TOO_LONG,
     }
 }
 
@@ -118,14 +102,14 @@ fn refusal(alloc: Global, text: &[u8], own: Answer) -> Result<Reply, Memory>
 /// The reply by an answer, of what costs what it may or can't be counted: then it has to be a refusal.
 fn reply_by(
     alloc: Global,
-    inquiry: &Inquiry<'_>,
+    command: &Command<'_>,
     text: &[u8],
     answer: Answer,
     allowance: Allowance,
 ) -> Result<Reply, Memory>
-    requires answer { act_answering (act_asked inquiry.now) text.now answer.text.items answer.status }
-    requires allowed { IsAllowance (act_asked inquiry.now) text.now allowance }
-    ensures { IfOk result (IsReplyTo (act_asked inquiry.now) text.now) }
+    requires answer { act_answering (act_of command.now) text.now answer.text.items answer.status }
+    requires allowed { IsAllowance (act_of command.now) text.now allowance }
+    ensures { IfOk result (IsReplyTo (act_of command.now) text.now) }
 {
     if answer.status != ENDED {
         return refusal(alloc, text, answer);
@@ -135,27 +119,46 @@ fn reply_by(
     }
     Ok(Reply {
         outcome: Outcome::Answered,
-        kind: kind_of(inquiry),
+        kind: kind_of(command),
         text: answer.text,
     })
 }
 
-/// The reply to an inquiry about a text. `Err` where memory runs out.
+/// The reply to a command about a text, with what it needs of that.
+fn reply_with<T: Threads + Sync + Eprint>(
+    rt: &T,
+    alloc: Global,
+    command: &Command<'_>,
+    text: &[u8],
+    work: Work,
+) -> Result<Reply, Memory>
+    requires fit { MayBeCarriedOut command.now }
+    requires offered { is_offered (act_of command.now) ≡ true }
+    requires work { IsWorkOf (act_of command.now) text.now work }
+    requires few { HasFewPoints work }
+    ensures { IfOk result (IsReplyTo (act_of command.now) text.now) }
+{
+    let allowance = allowance_of(alloc, command, &work)?;
+    if allowance == Allowance::Exceeded {
+        return said(alloc, Outcome::Unavailable, Kind::Plain, excess_of(command));
+    }
+    let answer = carry_out(rt, alloc, command, text, work)?;
+    reply_by(alloc, command, text, answer, allowance)
+}
+
+/// The reply to a command about a text that the page offers. `Err` where memory runs out.
 pub(crate) fn reply_to_inquiry<T: Threads + Sync + Eprint>(
     rt: &T,
     alloc: Global,
-    inquiry: &Inquiry<'_>,
+    command: &Command<'_>,
     text: &[u8],
 ) -> Result<Reply, Memory>
-    requires { MayBeAsked inquiry.now }
-    ensures { IfOk result (IsReplyTo (act_asked inquiry.now) text.now) }
+    requires fit { MayBeCarriedOut command.now }
+    requires offered { is_offered (act_of command.now) ≡ true }
+    ensures { IfOk result (IsReplyTo (act_of command.now) text.now) }
 {
-    let allowance = allowance_of(alloc, inquiry, text)?;
-    if allowance == Allowance::Exceeded {
-        return said(alloc, Outcome::Unavailable, Kind::Plain, excess_of(inquiry));
-    }
-    let answer = answer_of(rt, alloc, inquiry, text)?;
-    reply_by(alloc, inquiry, text, answer, allowance)
+    let work = work_of(alloc, command, text)?;
+    reply_with(rt, alloc, command, text, work)
 }
 
 /// The reply where memory ran out.

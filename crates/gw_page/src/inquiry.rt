@@ -1,27 +1,12 @@
 //! What the page may be asked of a model.
 
-ghost use Rattle.std.specs.Prelude.{◌≡◌, option_map, IfSome};
+ghost use Rattle.std.specs.Prelude.{◌≡◌, true, option_map, IfSome};
 ghost use Rattle.gw_command_line.specs.Asking.{MayBeCarriedOut};
 ghost use Rattle.gw_command_line.specs.Options.{view};
 ghost use Rattle.gw_command_line.specs.Words.{act_of};
-ghost use Rattle.gw_page.specs.Inquiries.{act_asked, by_one_worker, offered_act, MayBeAsked};
+ghost use Rattle.gw_page.specs.Inquiries.{by_one_worker, is_offered, offered_act};
 
-use gw_command_line::{Chart, Command, Options, Question, Runs, Study};
-
-/// What is asked of a model: those commands of the program `planner` that the page offers.
-#[derive(Clone, Copy)]
-pub(crate) enum Inquiry<'a> {
-    /// A question about it and its one run.
-    Question(Question),
-    /// A picture of its run.
-    Chart(Chart<'a>),
-    /// What the code of a refusal means.
-    Code(u16),
-    /// What many runs of it say.
-    Study(Study<'a>),
-    /// Its runs as rows.
-    Rows(Runs<'a>),
-}
+use gw_command_line::{Command, Options, Runs, Study};
 
 /// The same options with one worker.
 fn with_one_worker(options: Options<'_>) -> Options<'_>
@@ -32,21 +17,20 @@ fn with_one_worker(options: Options<'_>) -> Options<'_>
     options
 }
 
-/// What a command asks of a model, by one worker, if the page offers it.
-pub(crate) fn inquiry_of(command: Command<'_>) -> Option<Inquiry<'_>>
+/// A command as the page carries it out, by one worker, if the page offers it.
+pub(crate) fn inquiry_of(command: Command<'_>) -> Option<Command<'_>>
     requires { MayBeCarriedOut command }
-    ensures asked { option_map act_asked result ≡ offered_act (act_of command.entry) }
-    ensures fit { IfSome result MayBeAsked }
+    ensures asked { option_map act_of result ≡ offered_act (act_of command.entry) }
+    ensures fit { IfSome result MayBeCarriedOut }
+    ensures offered { IfSome result (λ command. is_offered (act_of command) ≡ true) }
 {
     match command {
-        Command::Ask(question) => Some(Inquiry::Question(question)),
-        Command::Chart(chart) => Some(Inquiry::Chart(chart)),
-        Command::Code(code) => Some(Inquiry::Code(code)),
-        Command::Study(study) => Some(Inquiry::Study(Study {
+        Command::Ask(_) | Command::Chart(_) | Command::Code(_) => Some(command),
+        Command::Study(study) => Some(Command::Study(Study {
             options: with_one_worker(study.options),
             ..study
         })),
-        Command::Runs(runs) => Some(Inquiry::Rows(Runs {
+        Command::Runs(runs) => Some(Command::Runs(Runs {
             options: with_one_worker(runs.options),
             ..runs
         })),

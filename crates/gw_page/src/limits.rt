@@ -1,25 +1,22 @@
 //! What a request may cost, counted before anything of it is answered.
 
-ghost use Rattle.std.specs.Prelude.{◌≡◌, ◌≤◌, ◌<◌, map, length, IfOk, if◌then◌else◌};
-ghost use Rattle.gw_command_line.specs.Asking.{AreRunsFit, MayBeMade};
-ghost use Rattle.gw_command_line.specs.Options.{view};
-ghost use Rattle.gw_command_line.specs.Words.{Ask, Rows, Studies, runs_view, study_view};
-ghost use Rattle.gw_page.specs.Inquiries.{act_asked, MayBeAsked};
-ghost use Rattle.gw_page.specs.Limits as model;
-ghost use Rattle.gw_page.specs.Limits.{IsAllowance, IsFound, IsOfModel, IsOfObject, IsOfOptions, IsOfReport, IsShare, AreShares, AreWithin};
+ghost use Rattle.std.specs.Prelude.{◌≡◌, ◌≤◌, ◌<◌, ℕ, List, length, true, IfOk, if◌then◌else◌};
+ghost use Rattle.gw_command_line.specs.Asking.{AreRunsFit, MayBeMade, MayBeCarriedOut};
+ghost use Rattle.gw_command_line.specs.Words.{Ask, Rows, Studies, act_of, runs_view, study_view};
+ghost use Rattle.gw_page.specs.Counting.{IsCounted};
+ghost use Rattle.gw_page.specs.Inquiries.{is_offered};
+ghost use Rattle.gw_page.specs.Limits.{IsAllowance, IsFound, IsShare, AreShares, AreWithin};
+ghost use Rattle.gw_planner.specs.Works.{ArePointsFor, HasFewPoints, IsJobFor, IsJobOfQuestion, IsWorkOf};
 ghost use Rattle.gw_figures.specs.Labels.{labels_of};
 ghost use Rattle.gw_study.specs.Runs.{run_job};
 
 use crate::counting::{END, is_short};
-use crate::inquiry::Inquiry;
-use gw_alternatives::{StudyPoint, points_by_words};
-use gw_answers::status::ENDED;
-use gw_answers::{NoJob, Request, Time, answer_to, spec_of, spec_of_text};
-use gw_command_line::{MOST_RUNS, Options, Question, Runs, Study};
+use gw_alternatives::StudyPoint;
+use gw_answers::Time;
+use gw_command_line::{Command, MOST_RUNS, Question, Runs, Study};
 use gw_figures::figures;
 use gw_object::Memory;
-use gw_parameters::NoAnswer;
-use gw_planner::words_of;
+use gw_planner::Work;
 use gw_scan::Spec;
 use gw_study::seeds_of;
 use std::alloc::Global;
@@ -53,54 +50,6 @@ fn allowance_if(short: bool) -> Allowance
     } else {
         Allowance::Exceeded
     }
-}
-
-/// That of a run of a model until a time.
-fn allowance_of_model(
-    alloc: Global,
-    text: &[u8],
-    time: Time,
-    most: u64,
-) -> Result<Allowance, Memory>
-    ensures { IfOk result (λ found. IsFound found (IsOfModel text.now time.0 most)) }
-{
-    match spec_of_text(alloc, text) {
-        Ok(spec) => Ok(allowance_if(is_short(alloc, spec, time, most)?)),
-        Err(NoJob::Refused(_)) => Ok(Allowance::Uncounted),
-        Err(NoJob::OutOfMemory) => Err(Memory),
-    }
-}
-
-/// That of a run of an object with a seed and a count.
-fn allowance_of_object(
-    alloc: Global,
-    object: &[u8],
-    seed: u32,
-    count: u64,
-) -> Result<Allowance, Memory>
-    ensures { IfOk result (λ found. IsFound found (IsOfObject object.now seed count)) }
-{
-    match spec_of(alloc, seed, count, object) {
-        Ok(spec) => Ok(allowance_if(is_short(alloc, spec, END, MOST_STEPS)?)),
-        Err(NoJob::Refused(_)) => Ok(Allowance::Uncounted),
-        Err(NoJob::OutOfMemory) => Err(Memory),
-    }
-}
-
-/// That of a run of a model with a seed and a count.
-fn allowance_of_report(
-    alloc: Global,
-    text: &[u8],
-    seed: u32,
-    count: u64,
-) -> Result<Allowance, Memory>
-    ensures { IfOk result (λ found. IsFound found (IsOfReport text.now seed count)) }
-{
-    let object = answer_to(alloc, Request::Asm, text)?;
-    if object.status != ENDED {
-        return Ok(Allowance::Uncounted);
-    }
-    allowance_of_object(alloc, &object.text, seed, count)
 }
 
 /// How many figures a run of a job's object has.
@@ -170,89 +119,123 @@ fn are_within(alloc: Global, points: &[StudyPoint], number: u32, runs: u64) -> R
 /// That of so many runs of each point, the first of this number.
 fn allowance_of_points(
     alloc: Global,
-    text: &[u8],
-    options: &Options<'_>,
-    count: u64,
+    points: &[StudyPoint],
     number: u32,
     runs: u64,
 ) -> Result<Allowance, Memory>
-    requires { (number < 512) × (runs ≤ 512) }
-    ensures { IfOk result (λ found.
-        IsFound found (IsOfOptions text.now (view options.now) count number runs)) }
+    requires { (number < 512) × (runs ≤ 512) × (length points.now ≤ 64) }
+    ensures { IfOk result (λ found. IsFound found (AreWithin number runs points.now)) }
 {
-    let words = words_of(alloc, options)?;
-    match points_by_words(alloc, text, &words, count) {
-        Ok(points) => Ok(allowance_if(are_within(alloc, &points, number, runs)?)),
-        Err(NoAnswer::Refused(_)) => Ok(Allowance::Uncounted),
-        Err(NoAnswer::Memory) => Err(Memory),
-    }
+    Ok(allowance_if(are_within(alloc, points, number, runs)?))
 }
 
-/// That of a study, by its first run.
-fn allowance_of_study(alloc: Global, study: &Study<'_>, text: &[u8]) -> Result<Allowance, Memory>
-    requires { MayBeMade study.now }
-    ensures { IfOk result (IsAllowance (Studies (study_view study.now)) text.now) }
+/// That of a study of these points, by its first run.
+fn allowance_of_study(
+    alloc: Global,
+    study: &Study<'_>,
+    points: &[StudyPoint],
+) -> Result<Allowance, Memory>
+    requires made { MayBeMade study.now }
+    requires few { length points.now ≤ 64 }
+    ensures { (text : List ℕ) → ArePointsFor (Studies (study_view study.now)) text points.now
+        → IfOk result (IsAllowance (Studies (study_view study.now)) text) }
 {
     let seeds = study.options.seeds.unwrap_or(1);
     let first = (seeds - 1) * study.runs;
-    allowance_of_points(
-        alloc,
-        text,
-        &study.options,
-        study.count,
-        first,
-        u64::from(study.runs),
-    )
+    allowance_of_points(alloc, points, first, u64::from(study.runs))
 }
 
-/// That of runs as rows, by the first of them.
-fn allowance_of_rows(alloc: Global, runs: &Runs<'_>, text: &[u8]) -> Result<Allowance, Memory>
-    requires { AreRunsFit runs.now }
-    ensures { IfOk result (IsAllowance (Rows (runs_view runs.now)) text.now) }
+/// That of runs of these points as rows, by the first of them.
+fn allowance_of_rows(
+    alloc: Global,
+    runs: &Runs<'_>,
+    points: &[StudyPoint],
+) -> Result<Allowance, Memory>
+    requires fit { AreRunsFit runs.now }
+    requires few { length points.now ≤ 64 }
+    ensures { (text : List ℕ) → ArePointsFor (Rows (runs_view runs.now)) text points.now
+        → IfOk result (IsAllowance (Rows (runs_view runs.now)) text) }
 {
     let made = u64::from(runs.end - runs.first);
-    allowance_of_points(
-        alloc,
-        text,
-        &runs.options,
-        runs.count,
-        runs.first.min(MOST_RUNS - 1),
-        made,
-    )
+    allowance_of_points(alloc, points, runs.first.min(MOST_RUNS - 1), made)
 }
 
-/// That of a question.
-fn allowance_of_question(
+/// That of a command that makes the runs of these points.
+fn allowance_of_runs(
     alloc: Global,
-    question: Question,
-    text: &[u8],
+    command: &Command<'_>,
+    points: &[StudyPoint],
 ) -> Result<Allowance, Memory>
-    ensures { IfOk result (IsAllowance (Ask question) text.now) }
+    requires fit { MayBeCarriedOut command.now }
+    requires few { length points.now ≤ 64 }
+    ensures { (text : List ℕ) → is_offered (act_of command.now) ≡ true
+        → ArePointsFor (act_of command.now) text points.now
+        → IfOk result (IsAllowance (act_of command.now) text) }
 {
-    match question {
-        Question::Explain | Question::List | Question::Convert => Ok(Allowance::Within),
-        Question::Points(_) => allowance_of_model(alloc, text, END, MOST_STEPS),
-        Question::Trace { from: _, to } => {
-            allowance_of_model(alloc, text, Time(to), MOST_TRACED)
-        }
-        Question::Report { seed, count } => allowance_of_report(alloc, text, seed, count),
+    match command {
+        Command::Study(study) => allowance_of_study(alloc, study, points),
+        Command::Runs(runs) => allowance_of_rows(alloc, runs, points),
+        _ => Ok(Allowance::Uncounted),
     }
 }
 
-/// Whether what is asked of a text costs what it may. `Err` where memory runs out.
+/// That of the run of a job until a time.
+fn allowance_of_run(alloc: Global, spec: &Spec, time: Time, most: u64) -> Result<Allowance, Memory>
+    ensures { IfOk result (λ found. IsFound found (IsCounted time.0 most spec.now)) }
+{
+    let shared = spec.share()?;
+    Ok(allowance_if(is_short(alloc, shared, time, most)?))
+}
+
+/// That of a question that shows something of a job.
+#[tactic(auto, using(crate::proofs::Costs::trace_found, crate::proofs::Costs::points_of_job_found, crate::proofs::Costs::report_found))]
+fn allowance_of_question(
+    alloc: Global,
+    question: Question,
+    spec: &Spec,
+) -> Result<Allowance, Memory>
+    ensures { (text : List ℕ) → IsJobOfQuestion question text spec.now
+        → IfOk result (IsAllowance (Ask question) text) }
+{
+    match question {
+        Question::Trace { from: _, to } => allowance_of_run(alloc, spec, Time(to), MOST_TRACED),
+        Question::Points(_)
+        | Question::Report { seed: _, count: _ }
+        | Question::Explain
+        | Question::List
+        | Question::Convert => allowance_of_run(alloc, spec, END, MOST_STEPS),
+    }
+}
+
+/// That of a command that shows something of a job.
+#[tactic(auto, using(crate::proofs::Costs::chart_found))]
+fn allowance_of_job(alloc: Global, command: &Command<'_>, spec: &Spec) -> Result<Allowance, Memory>
+    ensures { (text : List ℕ) → IsJobFor (act_of command.now) text spec.now
+        → IfOk result (IsAllowance (act_of command.now) text) }
+{
+    match command {
+        Command::Ask(question) => allowance_of_question(alloc, *question, spec),
+        _ => allowance_of_run(alloc, spec, END, MOST_STEPS),
+    }
+}
+
+/// Whether a command costs what it may, by what it needs of its input. `Err` where memory runs out.
+#[tactic(auto, using(crate::proofs::Costs::input_costs))]
 pub(crate) fn allowance_of(
     alloc: Global,
-    inquiry: &Inquiry<'_>,
-    text: &[u8],
+    command: &Command<'_>,
+    work: &Work,
 ) -> Result<Allowance, Memory>
-    requires { MayBeAsked inquiry.now }
-    ensures { IfOk result (IsAllowance (act_asked inquiry.now) text.now) }
+    requires fit { MayBeCarriedOut command.now }
+    requires few { HasFewPoints work.now }
+    ensures { (text : List ℕ) → is_offered (act_of command.now) ≡ true
+        → IsWorkOf (act_of command.now) text work.now
+        → IfOk result (IsAllowance (act_of command.now) text) }
 {
-    match inquiry {
-        Inquiry::Question(question) => allowance_of_question(alloc, *question, text),
-        Inquiry::Chart(_) => allowance_of_model(alloc, text, END, MOST_STEPS),
-        Inquiry::Code(_) => Ok(Allowance::Within),
-        Inquiry::Study(study) => allowance_of_study(alloc, study, text),
-        Inquiry::Rows(runs) => allowance_of_rows(alloc, runs, text),
+    match work {
+        Work::Input => Ok(Allowance::Within),
+        Work::Job(spec) => allowance_of_job(alloc, command, spec),
+        Work::Points(points) => allowance_of_runs(alloc, command, points),
+        Work::Refused(_) => Ok(Allowance::Uncounted),
     }
 }

@@ -38,7 +38,7 @@ abbrev pub subject : List ℕ → ParameterFault → List ℕ
 subject name fault = name ++ place_of (line_of fault)
 
 -- the refusal: the code and its name, what is refused, and why
-abbrev pub refusal_text : List ℕ → ParameterFault → List ℕ
+unfoldable pub refusal_text : List ℕ → ParameterFault → List ℕ
 refusal_text name fault = refusal_with_reason PARAMETER (subject name fault) (reason_of fault)
 
 -- this text, or want of memory

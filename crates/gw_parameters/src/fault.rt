@@ -84,6 +84,7 @@ fn put_subject(out: &mut Vec<u8>, name: &[u8], fault: ParameterFault) -> Result<
 
 /// The refusal of a name, as it is printed: its code and name, the name of the parameter, the line at fault if there is one,
 /// and why.
+#[tactic(auto, unfolding(crate::specs::Refusals::refusal_text))]
 pub fn refusal_of(alloc: Global, name: &[u8], fault: ParameterFault) -> Result<Vec<u8>, Memory>
     ensures { IfOk result (λ text. text.items ≡ model.refusal_text name.now fault) }
 {

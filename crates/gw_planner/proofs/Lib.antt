@@ -1,5 +1,6 @@
 pub mod Alone
 pub mod Conversions
-pub mod Reports
 pub mod RowLines
+pub mod Showing
 pub mod Summaries
+pub mod Working

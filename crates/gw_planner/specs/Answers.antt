@@ -3,13 +3,13 @@ use Rattle.std.specs.Prelude.{◌≡◌, ◌≢◌, ◌⊎◌, ℕ, List, ◌++�
 use Rattle.std.specs.Borrow.{Bor}
 use Rattle.std.specs.Global.{Global}
 use Rattle.std.specs.Option.{unwrap_or}
-use Rattle.gw_answers.specs.Status.{end_status}
-use Rattle.gw_answers.specs.Answer.{IsAnswer}
-use Rattle.gw_answers.specs.Assembly.{IsAssembly}
+use Rattle.gw_answers.specs.Status.{end_status, refusal_status}
+use Rattle.gw_report.specs.Report.{Ends}
 use Rattle.gw_answers.specs.Requests.{Answering}
 use Rattle.gw_explain.specs.Explanation.{IsExplained}
+use Rattle.gw_explain.specs.Meaning.{meaning}
 use Rattle.gw_listing.specs.Listing.{IsListed}
-use Rattle.gw_answers.specs.ModelJobs.{AnswersModel}
+use Rattle.gw_answers.specs.ModelJobs.{AnswersModel, AnswersWith}
 use Rattle.gw_trace.specs.Trace.{IsTrace}
 use Rattle.gw_chart.specs.Charts.{IsChart, IsSheet}
 use Rattle.gw_chart.specs.declared.window.Window.{Window}
@@ -20,7 +20,7 @@ use Rattle.gw_alternatives.specs.Told.{IsStudyOfPoints, IsComparison}
 use Rattle.gw_alternatives.specs.declared.form.Form.{Form}
 use Rattle.gw_alternatives.specs.declared.form.Form.TheVariants.{Table, Csv, Picture}
 use Rattle.gw_command_line.specs.Options.{Choices}
-use Rattle.gw_command_line.specs.Words.{Demand, RunsDemand, LoneDemand}
+use Rattle.gw_command_line.specs.Words.{Act, Ask, Charts, Code, Help, Version, Studies, Compares, Rows, Sums, Object, Shares, Demand, RunsDemand, LoneDemand}
 use Rattle.gw_command_line.specs.declared.rows.Shard.{Shard}
 use Rattle.gw_shards.specs.Objects.{IsObjectAnswer}
 use Rattle.gw_shards.specs.Rows.{AreRows}
@@ -29,12 +29,6 @@ use Rattle.gw_shards.specs.declared.request.RowsRequest.{RowsRequest}
 use Rattle.gw_command_line.specs.declared.words.Question.{Question}
 use Rattle.gw_command_line.specs.declared.words.Question.TheVariants.{Explain, List as Lists, Points, Convert, Trace, Report}
 use Rattle.gw_command_line.specs.declared.words.Span.{Span}
-
--- what is reported of a text: the report of its object, or a refusal of that; or the refusal of the text
-abbrev pub IsReported : ℕ → ℕ → Answering
-IsReported seed count bytes text status =
-    ((object : List ℕ) × IsAssembly bytes object end_status × IsAnswer seed count object text status)
-    ⊎ ((status ≢ end_status) × IsAssembly bytes text status)
 
 -- a text of GPSS World in this language, and what of it is still refused behind that
 pub record IsConversion (bytes text : List ℕ) (status : ℕ) : Type 0 where
@@ -55,7 +49,7 @@ question_answering Lists = IsListed
 question_answering (Points span) = AnswersModel (IsSheet (window_of span))
 question_answering Convert = IsConversion
 question_answering (Trace from to) = AnswersModel (IsTrace from to)
-question_answering (Report seed count) = IsReported seed count
+question_answering (Report seed count) = AnswersWith seed count Ends
 
 -- two models in one input: behind its front, which says how long the first is, the first and then the second
 abbrev pub IsPair : List ℕ → List ℕ → List ℕ → Type 0
@@ -78,7 +72,7 @@ request_of d = record {
 
 -- a study of the model as it is, as a table
 abbrev pub is_plain : Choices → Bool
-is_plain o = is_none o.first && is_none o.figure && not o.csv
+is_plain o = is_none o.first && is_none o.second && is_none o.third && is_none o.figure && not o.csv
 
 -- the words as `NURSES=2,3`
 abbrev pub words_of : Choices → List (List ℕ)
@@ -94,21 +88,26 @@ IsFormOf o Table = (o.figure ≡ None) × (o.csv ≡ false)
 IsFormOf o Csv = (o.figure ≡ None) × (o.csv ≡ true)
 IsFormOf o (Picture figure) = o.figure ≡ Some figure.now
 
--- what many runs of a model say with other numbers, or in another form
+-- what many runs of a model say with other numbers, or in another form; or something is refused
 abbrev pub studied_with : Demand → Answering
 studied_with d bytes text status =
-    (form : Form) × IsFormOf d.options form × IsStudyOfPoints bytes (words_of d.options) form (request_of d) text status
+    ((form : Form) × IsFormOf d.options form × IsStudyOfPoints bytes (words_of d.options) form (request_of d) text status)
+    ⊎ (status ≡ refusal_status)
 
 -- what many runs of a model say: of the model as it is a study's table
 abbrev pub studied_alone : Demand → Answering
 studied_alone d bytes text status =
     MatchBool (is_plain d.options) (IsStudy bytes (request_of d) text status) (studied_with d bytes text status)
 
--- what many runs of two models say: the first of them stands behind its length, and the second behind that
+-- what many runs of two models say, in the form that is asked for
+abbrev pub AreCompared : Demand → List ℕ → List ℕ → List ℕ → ℕ → Type 0
+AreCompared d first second text status = (form : Form) × IsFormOf d.options form × IsComparison first second form (request_of d) text status
+
+-- the same of an input: the first of them stands behind its length, and the second behind that; or something is refused
 abbrev pub comparison_answering : Demand → Answering
 comparison_answering d bytes text status =
-    (first : List ℕ) × (second : List ℕ) × (form : Form) × IsFormOf d.options form
-    × IsPair bytes first second × IsComparison first second form (request_of d) text status
+    ((first : List ℕ) × (second : List ℕ) × IsPair bytes first second × AreCompared d first second text status)
+    ⊎ (status ≡ refusal_status)
 
 -- what many runs say, of one model or of two
 abbrev pub study_answering : Bool → Demand → Answering
@@ -134,3 +133,23 @@ share_asked shard bytes text status = IsShareAnswer bytes shard.number shard.sha
 
 abbrev pub object_asked : LoneDemand → Answering
 object_asked d bytes text status = IsObjectAnswer bytes (words_of d.options) d.run d.count text status
+
+-- whether a command is about an input in memory: a summary reads its rows piece by piece, and what the program says of itself
+-- needs no input
+abbrev pub is_of_input : Act → Bool
+is_of_input (Sums summing) = false
+is_of_input Help = false
+is_of_input Version = false
+is_of_input _ = true
+
+-- what answers such a command about its input
+abbrev pub act_answering : Act → Answering
+act_answering (Ask question) bytes text status = question_answering question bytes text status
+act_answering (Charts span name) bytes text status = chart_answering span name bytes text status
+act_answering (Code code) bytes text status = (text ≡ meaning code) × (status ≡ end_status)
+act_answering (Studies d) bytes text status = study_answering false d bytes text status
+act_answering (Compares d) bytes text status = study_answering true d bytes text status
+act_answering (Rows d) bytes text status = rows_asked d bytes text status
+act_answering (Object d) bytes text status = object_asked d bytes text status
+act_answering (Shares shard) bytes text status = share_asked shard bytes text status
+act_answering _ bytes text status = ⊥

@@ -34,7 +34,7 @@ fn lines_on(alloc: Global, faults: &[Told]) -> Result<Vec<u8>, Memory> {
 /// A model text of GPSS World in the language of this project: behind a head a piece for each of its lines, in order, and at the end
 /// what of it is still refused. `Err` where memory runs out.
 #[tactic(auto, using(crate::proofs::Conversions::with_lines))]
-pub fn conversion(alloc: Global, input: &[u8]) -> Result<Answer, Memory>
+pub(crate) fn conversion(alloc: Global, input: &[u8]) -> Result<Answer, Memory>
     ensures { IfOk result (λ a. IsConversion input.now a.text.items a.status) }
 {
     let converted = convert(alloc, input)?;

@@ -1,13 +1,17 @@
 //! Many runs of a model, or of two.
 
-ghost use Rattle.std.specs.Prelude.{◌≡◌, map, option_map, IfOk, OnOk};
+ghost use Rattle.std.specs.Prelude.{◌≡◌, ◌<◌, ℕ, List, [], length, map, option_map, IfOk, OnOk};
 ghost use Rattle.gw_command_line.specs.Asking.{MayBeMade};
 ghost use Rattle.gw_command_line.specs.Words.{study_view};
 ghost use Rattle.gw_command_line.specs.Options.{view};
-ghost use Rattle.gw_planner.specs.Answers.{request_of as request_for, is_plain as plain, words_of as words_for, study_answering, studied_alone, studied_with, comparison_answering, AddsWord, IsFormOf, IsPair};
+ghost use Rattle.gw_alternatives.specs.Alternatives.{ArePoints};
+ghost use Rattle.gw_study.specs.Requests.{MayBeStudied};
+ghost use Rattle.gw_study.specs.Study.{IsStudy};
+ghost use Rattle.gw_planner.specs.Answers.{request_of as request_for, is_plain as plain, words_of as words_for, studied_alone, comparison_answering, AddsWord, IsFormOf, IsPair};
+ghost use Rattle.gw_planner.specs.Works.{ArePairPoints};
 
 use byteorder::{BigEndian, ByteOrder};
-use gw_alternatives::{Form, compare, study_points};
+use gw_alternatives::{Form, StudyPoint, study_points};
 use gw_answers::Answer;
 use gw_command_line::{Options, Study};
 use gw_explain::notes_on;
@@ -57,7 +61,7 @@ fn put_word<'a>(words: &mut Vec<&'a [u8]>, word: Option<&'a str>) -> Result<(), 
 }
 
 /// The words as `NURSES=2,3`.
-pub fn words_of<'a>(alloc: Global, options: &Options<'a>) -> Result<Vec<&'a [u8]>, Memory>
+pub(crate) fn words_of<'a>(alloc: Global, options: &Options<'a>) -> Result<Vec<&'a [u8]>, Memory>
     ensures { IfOk result (λ words.
         map (λ w. w.now) words.items ≡ words_for (view options.now)) }
 {
@@ -69,7 +73,7 @@ pub fn words_of<'a>(alloc: Global, options: &Options<'a>) -> Result<Vec<&'a [u8]
 }
 
 /// Two models in one input: the first behind its length in four bytes, the highest first, and then the second.
-fn models_in(input: &[u8]) -> (&[u8], &[u8])
+pub(crate) fn models_in(input: &[u8]) -> (&[u8], &[u8])
     ensures { IsPair input.now result.0.now result.1.now }
 {
     if input.len() < LENGTH_BYTES {
@@ -80,88 +84,91 @@ fn models_in(input: &[u8]) -> (&[u8], &[u8])
 }
 
 /// Whether the model is studied as it is, as a table.
-fn is_plain(options: &Options<'_>) -> bool
+pub(crate) fn is_plain(options: &Options<'_>) -> bool
     ensures { result ≡ plain (view options.now) }
 {
-    options.first.is_none() && options.figure.is_none() && !options.csv
+    options.first.is_none()
+        && options.second.is_none()
+        && options.third.is_none()
+        && options.figure.is_none()
+        && !options.csv
 }
 
-/// Tells on standard error what is noted of a model text that is accepted, as its explanation does. Where that can't be told it
-/// isn't: the study goes on.
-fn tell_notes<T: Eprint>(rt: &T, alloc: Global, text: &[u8]) {
-    if let Ok(notes) = notes_on(alloc, text)
+/// Points but the first.
+fn behind_first(points: &[StudyPoint]) -> &[StudyPoint] {
+    match points {
+        [_, rest @ ..] => rest,
+        [] => &[],
+    }
+}
+
+/// Tells on standard error what is noted of a model, whose runs are those of the first of these points, as its explanation does.
+/// Where that can't be told it isn't: the study goes on.
+fn tell_notes<T: Eprint>(rt: &T, alloc: Global, model: &[u8], points: &[StudyPoint]) {
+    if let [point, ..] = points
+        && let Ok(notes) = notes_on(alloc, model, point.spec.verified_object().object().parts())
         && let Ok(words) = str::from_utf8(&notes)
     {
         let _ = rt.eprint(words);
     }
 }
 
-/// What many runs of a model say, with the numbers and in the form that options give.
-fn answer_with<T: Threads + Sync + Eprint>(
+/// The study of the one point of a model as it is.
+fn lone_study<T: Threads + Sync + Eprint>(
     rt: &T,
     alloc: Global,
-    asked: &Study<'_>,
-    text: &[u8],
+    points: &[StudyPoint],
+    request: &StudyRequest,
 ) -> Result<Answer, Memory>
-    requires { MayBeMade asked.now }
-    ensures { IfOk result (λ a. studied_with (study_view asked.now) text.now a.text.items a.status) }
+    requires studied { MayBeStudied request.now }
+    requires some { 0 < length points.now }
+    ensures { (bytes : List ℕ) → ArePoints bytes [] request.now.count points.now
+        → IfOk result (λ a. IsStudy bytes request.now a.text.items a.status) }
 {
-    let words = words_of(alloc, &asked.options)?;
-    let form = form_of(&asked.options);
-    let request = request_of(asked);
-    study_points(rt, alloc, text, &words, form, &request)
+    match points {
+        [point, ..] => study(rt, alloc, &point.spec, request),
+        [] => unreachable!(),
+    }
 }
 
-/// What many runs of a model say.
-fn answer_alone<T: Threads + Sync + Eprint>(
+/// What many runs of a model say, whose points are these. What is noted of it is told on standard error.
+#[tactic(auto, using(crate::proofs::Working::plain_words, crate::proofs::Showing::some_point))]
+pub(crate) fn study_of<T: Threads + Sync + Eprint>(
     rt: &T,
     alloc: Global,
     asked: &Study<'_>,
-    text: &[u8],
+    model: &[u8],
+    points: &[StudyPoint],
 ) -> Result<Answer, Memory>
-    requires { MayBeMade asked.now }
-    ensures { IfOk result (λ a. studied_alone (study_view asked.now) text.now a.text.items a.status) }
+    requires made { MayBeMade asked.now }
+    requires points { ArePoints model.now (words_for (view asked.now.options)) asked.now.count points.now }
+    ensures { IfOk result (λ a. studied_alone (study_view asked.now) model.now a.text.items a.status) }
 {
-    tell_notes(rt, alloc, text);
+    tell_notes(rt, alloc, model, points);
     let request = request_of(asked);
     if is_plain(&asked.options) {
-        return study(rt, alloc, text, &request);
+        return lone_study(rt, alloc, points, &request);
     }
-    answer_with(rt, alloc, asked, text)
+    let form = form_of(&asked.options);
+    study_points(rt, alloc, points, form, &request)
 }
 
-/// What many runs of two models say.
-fn answer_pair<T: Threads + Sync + Eprint>(
+/// What many runs of two models say, whose points are these. What is noted of them is told on standard error.
+pub(crate) fn comparison_of<T: Threads + Sync + Eprint>(
     rt: &T,
     alloc: Global,
     asked: &Study<'_>,
     input: &[u8],
+    points: &[StudyPoint],
 ) -> Result<Answer, Memory>
-    requires { MayBeMade asked.now }
+    requires made { MayBeMade asked.now }
+    requires points { ArePairPoints asked.now.count input.now points.now }
     ensures { IfOk result (λ a. comparison_answering (study_view asked.now) input.now a.text.items a.status) }
 {
     let (first, second) = models_in(input);
-    tell_notes(rt, alloc, first);
-    tell_notes(rt, alloc, second);
+    tell_notes(rt, alloc, first, points);
+    tell_notes(rt, alloc, second, behind_first(points));
     let form = form_of(&asked.options);
     let request = request_of(asked);
-    compare(rt, alloc, first, second, form, &request)
-}
-
-/// What many runs of a model say, or of the two in an input. What is noted of the models is told on standard error.
-pub fn answer_study<T: Threads + Sync + Eprint>(
-    rt: &T,
-    alloc: Global,
-    asked: &Study<'_>,
-    is_pair: bool,
-    input: &[u8],
-) -> Result<Answer, Memory>
-    requires { MayBeMade asked.now }
-    ensures { IfOk result (λ a. study_answering is_pair (study_view asked.now) input.now a.text.items a.status) }
-{
-    if is_pair {
-        answer_pair(rt, alloc, asked, input)
-    } else {
-        answer_alone(rt, alloc, asked, input)
-    }
+    study_points(rt, alloc, points, form, &request)
 }

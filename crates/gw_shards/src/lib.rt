@@ -13,5 +13,5 @@ mod share;
 
 pub use objects::object_of_run;
 pub use request::RowsRequest;
-pub use rows::rows_between;
+pub use rows::{refusal_of_model, rows_of_points};
 pub use share::rows_of_share;

@@ -8,15 +8,14 @@ ghost use Rattle.gw_rows.specs.Refusals.{refusal_rows};
 ghost use Rattle.gw_rows.specs.Reading.{MayBeInRange};
 ghost use Rattle.gw_rows.specs.Rows.{rows_by, source_of};
 ghost use Rattle.gw_shards.specs.Rows as model;
-ghost use Rattle.gw_shards.specs.Rows.{AreRequestRows, view};
+ghost use Rattle.gw_shards.specs.Rows.{AreRequestRows, common_of, digest as digest_for, view};
 
 use crate::request::RowsRequest;
-use gw_alternatives::{StudyPoint, points_by_words};
+use gw_alternatives::StudyPoint;
 use gw_answers::Answer;
 use gw_answers::status::{ENDED, REFUSED};
 use gw_figures::{Figure, Run, figures};
 use gw_object::Memory;
-use gw_parameters::NoAnswer;
 use gw_rows::{Origin, digest_of, put_header, put_refusal, put_row};
 use gw_study::results_between;
 use std::alloc::Global;
@@ -220,30 +219,35 @@ fn told<T: Threads + Sync + Eprint>(
     })
 }
 
-/// The rows of runs of a model, of each point that words as `NURSES=2` ask for: behind the line that names their fields a row for
-/// each run from one number to another, but not that one, in order. A model, a word or a count that is refused is told as a row
-/// that says so, before any run.
-pub fn rows_between<T: Threads + Sync + Eprint>(
+/// The rows of runs of these points of a model: behind the line that names their fields a row for each run from one number to
+/// another, but not that one, in order.
+pub fn rows_of_points<T: Threads + Sync + Eprint>(
     rt: &T,
     alloc: Global,
-    text: &[u8],
-    words: &[&[u8]],
+    model: &[u8],
+    points: &[StudyPoint],
     request: &RowsRequest,
 ) -> Result<Answer, Memory>
     requires { (request.now.first ≤ request.now.end) × (request.now.end ≤ 512) }
-    ensures { IfOk result (λ a.
-        model.AreRows text.now (map (λ w. w.now) words.now) request.now a.text.items a.status) }
+    ensures status { IfOk result (λ a. a.status ≡ end_status) }
+    ensures rows { IfOk result (λ a.
+        AreRequestRows (common_of model.now request.now) request.now points.now a.text.items) }
 {
-    let digest = digest_of(alloc, text)?;
+    let digest = digest_of(alloc, model)?;
     let common = Common {
         model: &digest,
         rows: 0,
         from: request.from,
         workers: request.workers,
     };
-    match points_by_words(alloc, text, words, request.count) {
-        Ok(points) => told(rt, alloc, &common, &points, request),
-        Err(NoAnswer::Refused(refusal)) => refused(alloc, &digest, &refusal),
-        Err(NoAnswer::Memory) => Err(Memory),
-    }
+    told(rt, alloc, &common, points, request)
+}
+
+/// A refusal of a model, of a word or of a count, as a row that says so.
+pub fn refusal_of_model(alloc: Global, model: &[u8], why: &[u8]) -> Result<Answer, Memory>
+    ensures status { IfOk result (λ a. a.status ≡ refusal_status) }
+    ensures row { IfOk result (λ a. a.text.items ≡ refusal_rows (digest_for model.now) why.now) }
+{
+    let digest = digest_of(alloc, model)?;
+    refused(alloc, &digest, why)
 }

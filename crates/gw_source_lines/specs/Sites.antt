@@ -1,6 +1,5 @@
 -- Where the parts of an object stand in the text that it comes from.
-use Rattle.std.specs.Prelude.{ℕ, List, [], codes, Bool, nat_eq}
-use Rattle.std.specs.List.{starts_with}
+use Rattle.std.specs.Prelude.{ℕ, List, []}
 use Rattle.gw_text.specs.declared.model.Statement.{Statement}
 use Rattle.gw_source_lines.specs.declared.places.Sources.{Sources}
 use Rattle.gw_source_lines.specs.Lines.{block_lines, entity_lines, procedure_lines}
@@ -25,7 +24,3 @@ sites_told s = record { blocks = s.blocks.items; entities = s.entities.items; pr
 -- what comes from no text, or from one that can't be read, has none
 abbrev pub no_sites : Sites
 no_sites = record { blocks = []; entities = []; procedures = [] }
-
--- an object begins so; a model text that does, by its first label, is taken for one
-abbrev pub is_object : List ℕ → Bool
-is_object input = starts_with nat_eq input (codes "GPSO")

@@ -4,10 +4,8 @@
 //! table.
 #![tactic(auto)]
 
-mod inputs;
 mod lines;
 mod places;
 
-pub use inputs::is_object;
 pub use lines::sources;
 pub use places::Sources;

@@ -19,5 +19,5 @@ mod text;
 
 pub use request::{MOST_RUNS, StudyRequest};
 pub use seeds::seeds_of;
-pub use studying::{job_of_text, results, results_between, results_text, study};
+pub use studying::{job_of_model, results, results_between, results_text, study};
 pub use telling::Results;

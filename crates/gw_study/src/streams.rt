@@ -1,6 +1,7 @@
 //! Whether runs may have drawn numbers that other streams draw too.
 
-ghost use Rattle.std.specs.Prelude.{◌≡◌, ◌≤◌, ◌+◌, ◌-◌, ◌^◌, ◌++◌, min, nat_lt, length, option_to_list, None, IfOk, OnOk};
+ghost use Rattle.std.specs.Prelude.{◌≡◌, ◌≤◌, ◌+◌, ◌-◌, ◌*◌, ◌^◌, ◌++◌, min, nat_lt, length, option_to_list, None, IfOk, OnOk};
+ghost use Rattle.gw_notes.specs.Drawing as drawing;
 ghost use Rattle.gw_study.specs.Streams as model;
 
 use gw_figures::{Overdraw, Run, value_at};
@@ -69,6 +70,27 @@ fn meetings(steps: u64, values: &[Option<i128>], place: usize, block: &Block) ->
     }
 }
 
+/// At most so many numbers were drawn from a stream at a block.
+fn drawn_at(
+    entities: &[Entity],
+    stream: u8,
+    steps: u64,
+    values: &[Option<i128>],
+    place: usize,
+    block: &Block,
+) -> u128
+    requires { place ≤ 2 ^ 32 }
+    ensures value { result ≡ drawing.draws_at entities.now stream block.now
+        * model.meetings steps values.now place block.now }
+    ensures range { result ≤ 3 * 2 ^ 66 }
+{
+    let draws = draws_at(entities, stream, block);
+    if draws == 0 {
+        return 0;
+    }
+    u128::from(draws) * meetings(steps, values, place, block)
+}
+
 /// At most so many numbers were drawn from a stream at these blocks; 2^127 - 1 stands for more.
 #[tactic(auto, unfolding(crate::specs::Streams::drawn_from))]
 fn drawn_from(
@@ -84,8 +106,7 @@ fn drawn_from(
 {
     let mut drawn = 0;
     for i in 0..blocks.len() {
-        let more = u128::from(draws_at(entities, stream, &blocks[i]))
-            * meetings(steps, values, i, &blocks[i]);
+        let more = drawn_at(entities, stream, steps, values, i, &blocks[i]);
         drawn = MOST.min(drawn + more);
     }
     drawn

@@ -1,17 +1,17 @@
-//! A study of a model text.
+//! A study of a model.
 
 ghost use Rattle.std.specs.Prelude.{◌≡◌, ◌≤◌, ◌^◌, vec_len, IfOk};
-ghost use Rattle.gw_answers.specs.ModelJobs.{IsJobOf, Finds};
+ghost use Rattle.gw_answers.specs.ModelJobs.{Finds};
 ghost use Rattle.gw_answers.specs.Status.{end_status};
 ghost use Rattle.gw_study.specs.Requests.{MayBeStudied};
-ghost use Rattle.gw_study.specs.Study.{with_count as counted_of, AreResultsBetween, AreResultsOf, IsTextOfResults, IsCountedJob, IsCountRefusal, IsStudyRefusal, IsStudy, IsTold};
+ghost use Rattle.gw_study.specs.Study.{with_count as counted_of, AreResultsBetween, AreResultsOf, IsTextOfResults, IsCountedJob, IsCountRefusal, IsStudyRefusal, IsTold};
 
 use crate::request::StudyRequest;
 use crate::runs::{Setup, runs_in_order, runs_of};
 use crate::streams::put_streams;
 use crate::telling::{Results, table};
 use gw_answers::status::ENDED;
-use gw_answers::{Answer, BUDGET, NoJob, Refusal, answer_refusal, spec_of_text};
+use gw_answers::{Answer, BUDGET, NoJob, Refusal, spec_of_model};
 use gw_figures::figures;
 use gw_object::Memory;
 use gw_scan::{Spec, StartFault};
@@ -36,13 +36,13 @@ fn counted(spec: &Spec, count: u64) -> Result<Spec, NoJob>
     }
 }
 
-/// The job of a model text with this count, where 0 means the text's own, and the budget of a run; or why there is none: the
-/// refusal of the text or of its assembly, a count above 2^40, or want of memory.
-pub fn job_of_text(alloc: Global, text: &[u8], count: u64) -> Result<Spec, NoJob>
-    ensures found { Finds result (IsCountedJob text.now count) (IsStudyRefusal text.now count) }
+/// The job of a model with this count, where 0 means the model's own, and the budget of a run; or why there is none: the refusal
+/// of the model, a count above 2^40, or want of memory.
+pub fn job_of_model(alloc: Global, model: &[u8], count: u64) -> Result<Spec, NoJob>
+    ensures found { Finds result (IsCountedJob model.now count) (IsStudyRefusal model.now count) }
     ensures budget { IfOk result (λ spec. spec.budget ≡ BUDGET) }
 {
-    match spec_of_text(alloc, text) {
+    match spec_of_model(alloc, model, 0, 0) {
         Ok(spec) => {
             let found = counted(&spec, count);
             drop(spec);
@@ -117,8 +117,12 @@ pub fn results_between<T: Threads + Sync + Eprint>(
     Ok(Results { figures, runs })
 }
 
-/// What is told of the runs of a job's object.
-fn studied<T: Threads + Sync + Eprint>(
+/// The study of a job of a model, whose budget is that of a run: it is run so many times, each time with 16 other seeds, until so
+/// many transactions have been counted. Workers make the runs. What comes is a row for each figure, with its mean over the runs
+/// that came to their count, the least and the greatest, and the half-width of its 95 % confidence interval, all in thousandths,
+/// how many more runs would halve that, which averages change in a run, which contents grow to its end, and which streams may have
+/// come to where the next begins.
+pub fn study<T: Threads + Sync + Eprint>(
     rt: &T,
     alloc: Global,
     spec: &Spec,
@@ -133,30 +137,4 @@ fn studied<T: Threads + Sync + Eprint>(
         text: results_text(alloc, &results, request, spec.count())?,
         status: ENDED,
     })
-}
-
-/// The study of a model text: it is assembled, and run so many times, each time with 16 other seeds, until so many transactions
-/// have been counted. Workers make the runs. What comes is a row for each figure, with its mean over the runs that came to their
-/// count, the least and the greatest, and the half-width of its 95 % confidence interval, all in thousandths, how many more runs
-/// would halve that, which averages change in a run, which contents grow to its end, and which streams may have come to where the
-/// next begins. A text that is refused is told as `gpssw asm` tells it; so is a count
-/// above 2^40.
-pub fn study<T: Threads + Sync + Eprint>(
-    rt: &T,
-    alloc: Global,
-    text: &[u8],
-    request: &StudyRequest,
-) -> Result<Answer, Memory>
-    requires { MayBeStudied request.now }
-    ensures { IfOk result (λ a. IsStudy text.now request.now a.text.items a.status) }
-{
-    match job_of_text(alloc, text, request.count) {
-        Ok(spec) => {
-            let answer = studied(rt, alloc, &spec, request);
-            drop(spec);
-            answer
-        }
-        Err(NoJob::Refused(refusal)) => answer_refusal(alloc, refusal),
-        Err(NoJob::OutOfMemory) => Err(Memory),
-    }
 }

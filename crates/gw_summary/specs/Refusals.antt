@@ -39,5 +39,5 @@ wrong point other = []
 
 -- the refusal of a line by its number, from 1: the code and its name, the number, and why, with the point of a run that isn't there or
 -- shouldn't be
-abbrev pub refusal_text : ℕ → List ℕ → RowFault → List ℕ
+unfoldable pub refusal_text : ℕ → List ℕ → RowFault → List ℕ
 refusal_text line point fault = refusal_with_reason ROW (codes "line " ++ decimal line) (wrong point fault ++ reason_of fault)

@@ -112,6 +112,7 @@ fn put_reason(out: &mut Vec<u8>, point: &[u8], fault: RowFault) -> Result<(), Me
 
 /// The refusal of a line by its number, from 1, as it is printed: its code and name, the number, and why, with the point of a run that
 /// isn't there or shouldn't be. What misses is told at the line behind the last.
+#[tactic(auto, unfolding(crate::specs::Refusals::refusal_text))]
 pub fn refusal_of(
     alloc: Global,
     line: u64,

@@ -1,16 +1,16 @@
-//! From a model text to the trace of its run.
+//! From a job to the trace of its run.
 
 ghost use Rattle.std.specs.Prelude.{◌≡◌, OnOk, IfOk, None, Some};
 ghost use Rattle.gw_writing.specs.Text.{Puts};
 ghost use Rattle.gw_step.specs.Job.{Alone, IsReached, Step, start_of};
-ghost use Rattle.gw_answers.specs.ModelJobs.{AnswersModel};
+ghost use Rattle.gw_answers.specs.Status.{end_status};
 ghost use Rattle.gw_answers.specs.Running.{IsOver};
 ghost use Rattle.gw_trace.specs.Trace.{sight_line, window_line, heading, AnswersTrace, HasTraced, IsTrace};
 
 use crate::line::put_line;
 use crate::sight::Sight;
 use gw_answers::status::ENDED;
-use gw_answers::{Answer, BUDGET, NoJob, Time, answer_refusal, is_over, spec_of_text};
+use gw_answers::{Answer, BUDGET, Time, is_over};
 use gw_object::Memory;
 use gw_scan::{Sim, Spec};
 use gw_writing::put;
@@ -93,8 +93,8 @@ fn trace_of_run(alloc: Global, sim: &mut Sim, window: Window) -> Result<Answer, 
     })
 }
 
-/// The trace of a job, from its start.
-fn trace_of_job(alloc: Global, spec: Spec, window: Window) -> Result<Answer, Memory>
+/// The trace of a job within a window.
+fn trace_within(alloc: Global, spec: Spec, window: Window) -> Result<Answer, Memory>
     requires { spec.budget ≡ BUDGET }
     ensures { IfOk result (AnswersTrace window spec) }
 {
@@ -111,20 +111,17 @@ fn trace_of_job(alloc: Global, spec: Spec, window: Window) -> Result<Answer, Mem
     }
 }
 
-/// The trace of a model text from one time of the clock to another, both included, in clock units: what the columns are, and a
-/// line for each step after which the clock lies there, in order; or the line of the refusal, as the assembler's is printed.
+/// The trace of a job, whose budget is that of a run, from one time of the clock to another, both included, in clock units: what
+/// the columns are, and a line for each step after which the clock lies there, in order.
 ///
 /// It fails for want of memory.
-pub fn trace(alloc: Global, text: &[u8], from: i64, to: i64) -> Result<Answer, Memory>
-    ensures { IfOk result (λ a. AnswersModel (IsTrace from to) text.now a.text.items a.status) }
+pub fn trace(alloc: Global, spec: Spec, from: i64, to: i64) -> Result<Answer, Memory>
+    requires { spec.budget ≡ BUDGET }
+    ensures { IfOk result (λ a. (a.status ≡ end_status) × IsTrace from to spec a.text.items) }
 {
     let window = Window {
         from: Time(from),
         to: Time(to),
     };
-    match spec_of_text(alloc, text) {
-        Ok(spec) => trace_of_job(alloc, spec, window),
-        Err(NoJob::Refused(refusal)) => answer_refusal(alloc, refusal),
-        Err(NoJob::OutOfMemory) => Err(Memory),
-    }
+    trace_within(alloc, spec, window)
 }

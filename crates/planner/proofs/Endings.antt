@@ -9,9 +9,9 @@ use Rattle.gw_step.specs.Job.{Job}
 use Rattle.gw_answers.specs.Refusal.{refusal_line}
 use Rattle.gw_answers.specs.Status.{end_status, refusal_status}
 use Rattle.gw_answers.specs.Answer.{object_of, accepted_line}
-use Rattle.gw_answers.specs.declared.request.Request.TheVariants.{Run}
-use Rattle.gw_console.proofs.Outputs.{IsEnd, Ends, assembly_status, request_ends}
-use Rattle.gw_source_lines.specs.Sites.{no_sites, is_object}
+use Rattle.gw_console.proofs.Outputs.{IsEnd, Ends}
+use Rattle.gw_answers.specs.Inputs.{is_object}
+use Rattle.gw_source_lines.specs.Sites.{no_sites}
 use Rattle.gw_explain.specs.Explanation.{Begins, IsAdvised, IsExplainedModel, IsExplainedText}
 use Rattle.gw_listing.specs.Listing.{IsListingOf, TellsRefusal, IsListedModel, IsListedText}
 use Rattle.gw_answers.specs.ModelJobs.{AnswersModel}
@@ -25,15 +25,15 @@ use Rattle.gw_alternatives.specs.Told.{IsAnswerAbout, IsToldOr}
 use Rattle.gw_alternatives.specs.declared.study_point.StudyPoint.{StudyPoint}
 use Rattle.gw_shards.specs.Objects.{IsSpelled, IsFirstObject}
 use Rattle.gw_shards.specs.Shares.{IsShareOr}
-use Rattle.gw_command_line.specs.Words.{Demand, RunsDemand, LoneDemand}
+use Rattle.gw_command_line.specs.Words.{Act, Ask, Charts, Code, Help, Version, Studies, Compares, Rows, Sums, Object as ObjectOf, Shares, Demand, RunsDemand, LoneDemand}
 use Rattle.gw_command_line.specs.declared.rows.Shard.{Shard}
 use Rattle.gw_command_line.specs.declared.rows.Summing.{Summing}
 use Rattle.gw_summary.specs.Telling.{IsSummary, IsSummaryOf}
 use Rattle.gw_summary.specs.declared.rows.Rows.{Rows as RowsOfStudy}
 use Rattle.gw_summary.specs.declared.telling.SummaryRequest.{SummaryRequest}
-use Rattle.gw_planner.specs.Answers.{IsReported, question_answering, window_of, is_plain, request_of, words_of, studied_with}
+use Rattle.gw_planner.specs.Answers.{act_answering, question_answering, window_of, is_plain, request_of, words_of, studied_with, study_answering}
 use Rattle.gw_planner.specs.Answers.{comparison_answering, rows_asked, share_asked, object_asked}
-use Rattle.planner.specs.Answers.{answering_of_input, charting_of_input, studying_of_input, of_front, summary_answering, summary_of}
+use Rattle.planner.specs.Answers.{of_front, summary_answering, summary_of}
 use Rattle.gw_command_line.specs.declared.words.Question.{Question}
 use Rattle.gw_command_line.specs.declared.words.Question.TheVariants.{Explain, List as Lists, Points, Convert, Trace, Report}
 use Rattle.gw_command_line.specs.declared.words.Span.{Span}
@@ -94,14 +94,12 @@ told Are form request text status (inr h) = inr h
 alone : (plain : Bool) (d : Demand) (bytes text : List ℕ) (status : ℕ)
     → MatchBool plain (IsStudy bytes (request_of d) text status) (studied_with d bytes text status) → IsEnd status
 alone true d bytes text status h = study bytes (request_of d) text status h
-alone false d bytes text status h = told (ArePoints bytes (words_of d.options) (request_of d).count) h.0 (request_of d) text status h.2
+alone false d bytes text status (inl h) = told (ArePoints bytes (words_of d.options) (request_of d).count) h.0 (request_of d) text status h.2
+alone false d bytes text status (inr h) = inr h
 
 pair : (d : Demand) (bytes text : List ℕ) (status : ℕ) → comparison_answering d bytes text status → IsEnd status
-pair d bytes text status h = told (AreModels h.0 h.1 (request_of d).count) h.2 (request_of d) text status h.5
-
-report : (seed count : ℕ) (bytes text : List ℕ) (status : ℕ) → IsReported seed count bytes text status → IsEnd status
-report seed count bytes text status (inl h) = request_ends (Run seed count) h.0 text status h.2
-report seed count bytes text status (inr h) = assembly_status bytes text status h.1
+pair d bytes text status (inl h) = told (AreModels h.0 h.1 (request_of d).count) h.3.0 (request_of d) text status h.3.2
+pair d bytes text status (inr h) = inr h
 
 ends : (question : Question) (bytes text : List ℕ) (status : ℕ) → question_answering question bytes text status → IsEnd status
 ends Explain bytes text status h =
@@ -111,18 +109,13 @@ ends Lists bytes text status h =
 ends (Points span) bytes text status h = shown (IsSheet (window_of span)) bytes text status h
 ends Convert bytes text status h = inl h.ends
 ends (Trace from to) bytes text status h = shown (IsTrace from to) bytes text status h
-ends (Report seed count) bytes text status h = report seed count bytes text status h
+ends (Report seed count) bytes text status (inl h) = inl h.0
+ends (Report seed count) bytes text status (inr h) = inr h.0
 
--- those of a question
-pub question_ends : (question : Question) → Ends (answering_of_input question)
-question_ends question bytes text status h = ends question _ text status h
-
-pub charting_ends : (span : Span) (name : List ℕ) → Ends (charting_of_input span name)
-charting_ends span name bytes text status h = shown (IsChart (window_of span) name) (take (MOST_BYTES + 1) bytes) text status h
-
-pub studying_ends : (is_pair : Bool) (d : Demand) → Ends (studying_of_input is_pair d)
-studying_ends true d bytes text status h = pair d (take (MOST_BYTES + 1) bytes) text status h
-studying_ends false d bytes text status h = alone (is_plain d.options) d (take (MOST_BYTES + 1) bytes) text status h
+-- those of a study, or of a comparison
+studying : (is_pair : Bool) (d : Demand) (bytes text : List ℕ) (status : ℕ) → study_answering is_pair d bytes text status → IsEnd status
+studying true d bytes text status h = pair d bytes text status h
+studying false d bytes text status h = alone (is_plain d.options) d bytes text status h
 
 -- those of rows, shares, objects and summaries
 object_end : (parts : Parts) (out : List ℕ) (status : ℕ) → IsSpelled parts out status → IsEnd status
@@ -137,17 +130,34 @@ of_share : (text : List ℕ) (experiment : _) (number shares : ℕ) (out : List 
 of_share text experiment number shares out status (inl h) = inl h.0
 of_share text experiment number shares out status (inr h) = inr h.0
 
-pub rows_ends : (d : RunsDemand) → Ends (of_front (rows_asked d))
-rows_ends d bytes text status (inl h) = inl h.0
-rows_ends d bytes text status (inr h) = inr h.0
+rows : (d : RunsDemand) (bytes text : List ℕ) (status : ℕ) → rows_asked d bytes text status → IsEnd status
+rows d bytes text status (inl h) = inl h.0
+rows d bytes text status (inr h) = inr h.0
 
-pub share_ends : (shard : Shard) → Ends (of_front (share_asked shard))
-share_ends shard bytes text status (inl h) = of_share _ h.0 shard.number shard.shares text status h.2
-share_ends shard bytes text status (inr h) = inr h.2
+share : (shard : Shard) (bytes text : List ℕ) (status : ℕ) → share_asked shard bytes text status → IsEnd status
+share shard bytes text status (inl h) = of_share _ h.0 shard.number shard.shares text status h.2
+share shard bytes text status (inr h) = inr h.2
 
-pub object_ends : (d : LoneDemand) → Ends (of_front (object_asked d))
-object_ends d bytes text status (inl h) = first_object h.0 d.run text status h.2
-object_ends d bytes text status (inr h) = inr h
+object : (d : LoneDemand) (bytes text : List ℕ) (status : ℕ) → object_asked d bytes text status → IsEnd status
+object d bytes text status (inl h) = first_object h.0 d.run text status h.2
+object d bytes text status (inr h) = inr h
+
+act : (a : Act) (bytes text : List ℕ) (status : ℕ) → act_answering a bytes text status → IsEnd status
+act (Ask question) bytes text status h = ends question bytes text status h
+act (Charts span name) bytes text status h = shown (IsChart (window_of span) name) bytes text status h
+act (Code code) bytes text status h = inl h.1
+act (Studies d) bytes text status h = studying false d bytes text status h
+act (Compares d) bytes text status h = studying true d bytes text status h
+act (Rows d) bytes text status h = rows d bytes text status h
+act (ObjectOf d) bytes text status h = object d bytes text status h
+act (Shares shard) bytes text status h = share shard bytes text status h
+act (Sums summing) bytes text status h = absurd h
+act Help bytes text status h = absurd h
+act Version bytes text status h = absurd h
+
+-- those of a command about an input
+pub act_ends : (a : Act) → Ends (of_front (act_answering a))
+act_ends a bytes text status h = act a (take (MOST_BYTES + 1) bytes) text status h
 
 summary_end : (rows : RowsOfStudy) (request : SummaryRequest) (text : List ℕ) (status : ℕ) → IsSummary rows request text status → IsEnd status
 summary_end rows request text status (inl h) = inl h.0

@@ -2,3 +2,4 @@ pub mod Endings
 pub mod Fronts
 pub mod Telling
 pub mod Summing
+pub mod Commands

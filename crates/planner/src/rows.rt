@@ -1,28 +1,24 @@
-//! Runs on many machines: rows, shares, summaries, and the object of a run.
+//! Summaries of rows, which are read piece by piece.
 
-ghost use Rattle.std.specs.Prelude.{◌≡◌, ◌+◌, ◌<◌, [], length, false, IfOk, OnOk};
+ghost use Rattle.std.specs.Prelude.{◌≡◌, ◌<◌, [], length, false, IfOk, OnOk};
 ghost use Rattle.gw_answers.specs.Requests.{AnswersAs};
 ghost use Rattle.gw_answers.specs.Status.{refusal_status};
-ghost use Rattle.gw_command_line.specs.Asking.{AreRunsFit, IsRunFit, IsShardFit};
 ghost use Rattle.gw_console.specs.Output.{AnswersReader, Delivers};
-ghost use Rattle.gw_console.specs.Calls.{LosesFront, LosesAtMost, TellsReads, TellsCalls};
+ghost use Rattle.gw_console.specs.Calls.{TellsReads};
 ghost use Rattle.gw_summary.specs.Keeping.{IsRead};
 ghost use Rattle.gw_summary.specs.StudyRows.{StudyRuns, IsReadOf};
 ghost use Rattle.planner.specs.Reading.{ReadsAll, ReadsPiece, RefusesNoRows, RefusesNoStudy, TellsRows};
-ghost use Rattle.gw_planner.specs.Answers.{share_asked};
-ghost use Rattle.planner.specs.Answers.{making_object, of_front, summary_answering, telling_rows};
+ghost use Rattle.planner.specs.Answers.{summary_answering};
 
 use gw_answers::Answer;
 use gw_answers::status::REFUSED;
-use gw_command_line::{LoneRun, Runs, Shard, Summing};
-use gw_console::{ProgramFault, deliver, or_no_memory, read_input};
-use gw_object::{MOST_BYTES, Memory};
-use gw_planner::{object_of, rows_of, share_of};
+use gw_command_line::Summing;
+use gw_console::{ProgramFault, deliver, or_no_memory};
+use gw_object::Memory;
 use gw_streams::{Input, Output};
 use gw_summary::{NoRow, Pieces, RowFault, SummaryRequest, refusal_of, summary};
 use std::alloc::Global;
-use std::io::{Eprint, Read, Write};
-use std::thread::Threads;
+use std::io::{Read, Write};
 
 /// How many bytes of rows are read at once.
 const PIECE: usize = 16_384;
@@ -34,112 +30,6 @@ enum NoRows {
     Row(NoRow),
     /// A read failed.
     Read,
-}
-
-/// Reads a model, and makes the runs that are asked for.
-fn read_and_run<R: Read, T: Threads + Sync + Eprint>(
-    rt: &T,
-    alloc: Global,
-    runs: &Runs<'_>,
-    reader: &mut Input<R>,
-) -> Result<Answer, ProgramFault>
-    requires fit { AreRunsFit runs.now }
-    requires reader { reader.old.failed ≡ false }
-    ensures answer { AnswersAs result (AnswersReader (telling_rows runs.now) reader.old.left) }
-    ensures told { TellsReads result reader.old.failed reader.new.failed }
-    ensures whole { OnOk result (LosesFront (MOST_BYTES + 1) reader.old.left reader.new.left) }
-    ensures limited { LosesAtMost (MOST_BYTES + 1) reader.old.left reader.new.left }
-{
-    let input = read_input(alloc, reader)?;
-    or_no_memory(rows_of(rt, alloc, runs, &input))
-}
-
-/// Makes runs of a model: reads all of it, and writes their rows. It tells on standard error how far the runs are.
-pub fn ask_runs<R: Read, W: Write, T: Threads + Sync + Eprint>(
-    rt: &T,
-    alloc: Global,
-    runs: &Runs<'_>,
-    reader: &mut Input<R>,
-    writer: &mut Output<W>,
-) -> u8
-    requires fit { AreRunsFit runs.now }
-    requires reader { reader.old.failed ≡ false }
-    requires writer { writer.old.failed ≡ false }
-    ensures written { Delivers (telling_rows runs.now)
-        reader.old.left result writer.old.held writer.new.held }
-    ensures calls { TellsCalls result reader.old reader.new writer.old writer.new }
-{
-    deliver(writer, read_and_run(rt, alloc, runs, reader))
-}
-
-/// Reads a model, and makes the runs of a share.
-fn read_and_share<R: Read, T: Threads + Sync + Eprint>(
-    rt: &T,
-    alloc: Global,
-    shard: Shard,
-    reader: &mut Input<R>,
-) -> Result<Answer, ProgramFault>
-    requires fit { IsShardFit shard }
-    requires reader { reader.old.failed ≡ false }
-    ensures answer { AnswersAs result (AnswersReader (of_front (share_asked shard)) reader.old.left) }
-    ensures told { TellsReads result reader.old.failed reader.new.failed }
-    ensures whole { OnOk result (LosesFront (MOST_BYTES + 1) reader.old.left reader.new.left) }
-    ensures limited { LosesAtMost (MOST_BYTES + 1) reader.old.left reader.new.left }
-{
-    let input = read_input(alloc, reader)?;
-    or_no_memory(share_of(rt, alloc, shard, &input))
-}
-
-/// Makes a share of the runs that a model asks for: reads all of it, and writes their rows, as [`ask_runs`] does.
-pub fn ask_shard<R: Read, W: Write, T: Threads + Sync + Eprint>(
-    rt: &T,
-    alloc: Global,
-    shard: Shard,
-    reader: &mut Input<R>,
-    writer: &mut Output<W>,
-) -> u8
-    requires fit { IsShardFit shard }
-    requires reader { reader.old.failed ≡ false }
-    requires writer { writer.old.failed ≡ false }
-    ensures written { Delivers (of_front (share_asked shard))
-        reader.old.left result writer.old.held writer.new.held }
-    ensures calls { TellsCalls result reader.old reader.new writer.old writer.new }
-{
-    deliver(writer, read_and_share(rt, alloc, shard, reader))
-}
-
-/// Reads a model, and makes the object of a run of it.
-fn read_and_make<R: Read>(
-    alloc: Global,
-    run: &LoneRun<'_>,
-    reader: &mut Input<R>,
-) -> Result<Answer, ProgramFault>
-    requires fit { IsRunFit run.now }
-    requires reader { reader.old.failed ≡ false }
-    ensures answer { AnswersAs result (AnswersReader (making_object run.now) reader.old.left) }
-    ensures told { TellsReads result reader.old.failed reader.new.failed }
-    ensures whole { OnOk result (LosesFront (MOST_BYTES + 1) reader.old.left reader.new.left) }
-    ensures limited { LosesAtMost (MOST_BYTES + 1) reader.old.left reader.new.left }
-{
-    let input = read_input(alloc, reader)?;
-    or_no_memory(object_of(alloc, run, &input))
-}
-
-/// Writes the object of a run of a model: reads all of the model before.
-pub fn ask_object<R: Read, W: Write>(
-    alloc: Global,
-    run: &LoneRun<'_>,
-    reader: &mut Input<R>,
-    writer: &mut Output<W>,
-) -> u8
-    requires fit { IsRunFit run.now }
-    requires reader { reader.old.failed ≡ false }
-    requires writer { writer.old.failed ≡ false }
-    ensures written { Delivers (making_object run.now)
-        reader.old.left result writer.old.held writer.new.held }
-    ensures calls { TellsCalls result reader.old reader.new writer.old writer.new }
-{
-    deliver(writer, read_and_make(alloc, run, reader))
 }
 
 /// One read of rows. It answers how many bytes came; 0 is the end.
